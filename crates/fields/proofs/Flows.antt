@@ -1,0 +1,100 @@
+-- A flow's rule, and its record there and back. Assumes nothing.
+use mathlib.Core.Path.{_≡_, ap, _∙_}
+use mathlib.Core.Bool.{true}
+use mathlib.Core.List.{List, [], _∷_, _++_}
+use Prim.Native.Nat.{ℕ, _≤_, _<_}
+use native.Mathlib.Omega.{arith}
+use lib.Dec.{leb, lit<}
+use lib.ListN.{length, getD}
+use borrow.Author.Tests.{lt-ltb, le-leb, ltb-true, leb-true}
+use Rattle.logic.proofs.Tests.{by-test, and-both}
+use Rattle.fields.specs.declared.kind.Kind.the-variants.{ListRecord}
+use Rattle.fields.specs.declared.flow.Flow.{Flow}
+use Rattle.fields.specs.declared.flow.Rule.the-variants.{Kept, Broken}
+use Rattle.fields.specs.Packed.{Fit}
+use Rattle.fields.specs.Kinds.{widths}
+use Rattle.fields.specs.Records.{packed, valuesOf}
+use Rattle.fields.specs.Flows.{among, keeps, rule, fieldsOf, flowWith, flowOf, packedFlow}
+use Rattle.fields.proofs.Records.{length-packed, values-packed, packed-values, values-fit}
+
+-- the rule, as orders
+pub record Keeps (f : Flow) : Type 0 where
+  pub numbered : 1 ≤ f .number
+  pub number-le : f .number ≤ 1023
+  pub sized : 1 ≤ f .size
+  pub size-le : f .size ≤ 4095
+  pub timed : 1 ≤ f .interval
+  pub interval-le : f .interval ≤ 4096
+  pub fitting : f .size ≤ f .interval
+  pub tolerable : f .jitter < f .interval
+
+among-both : (a b x : ℕ) → among a b x ≡ true → (a ≤ x) × (x ≤ b)
+among-both a b x h =
+    let both = and-both (leb a x) (leb x b) h in
+    (leb-true a x (both .0), leb-true x b (both .1))
+
+pub keeps-is : (f : Flow) → keeps f ≡ true → Keeps f
+unfolding keeps
+keeps-is f h =
+    let a = and-both (among 1 1023 (f .number)) _ h in
+    let b = and-both (among 1 4095 (f .size)) _ (a .1) in
+    let d = and-both (among 1 4096 (f .interval)) _ (b .1) in
+    let e = and-both (leb (f .size) (f .interval)) _ (d .1) in
+    let n = among-both 1 1023 (f .number) (a .0) in
+    let s = among-both 1 4095 (f .size) (b .0) in
+    let i = among-both 1 4096 (f .interval) (d .0) in
+    record {
+      numbered = n .0;
+      number-le = n .1;
+      sized = s .0;
+      size-le = s .1;
+      timed = i .0;
+      interval-le = i .1;
+      fitting = leb-true _ _ (e .0);
+      tolerable = ltb-true _ _ (e .1);
+    }
+
+-- what the rule answers, both ways
+pub rule-kept : (f : Flow) → Keeps f → Kept ≡ rule f
+unfolding rule keeps
+rule-kept f k =
+    rw (le-leb _ _ (k .numbered), le-leb _ _ (k .number-le), le-leb _ _ (k .sized), le-leb _ _ (k .size-le), le-leb _ _ (k .timed), le-leb _ _ (k .interval-le), le-leb _ _ (k .fitting), lt-ltb _ _ (k .tolerable))
+
+pub rule-broken : (f : Flow) → (Keeps f → ⊥) → Broken ≡ rule f
+unfolding rule
+rule-broken f n = by-test (keeps f) (λ e. absurd (n (keeps-is f e))) (λ e. rw e)
+
+-- ---- the record
+
+-- a flow that keeps its rule has fields that fit their widths
+pub keeps-fit : (f : Flow) → Keeps f → Fit (widths ListRecord) (fieldsOf f)
+keeps-fit f k = (omega arith, (omega arith, (omega arith, (omega arith, (lit< tt, (lit< tt, tt))))))
+
+pub length-packed-flow : (f : Flow) → length (packedFlow f) ≡ 6
+unfolding packedFlow
+length-packed-flow f = length-packed ListRecord (fieldsOf f)
+
+-- a record is read back, whatever stands behind it
+pub flow-packed : (f : Flow) (rest : List ℕ) → Keeps f → flowOf (packedFlow f ++ rest) ≡ f
+unfolding flowOf packedFlow
+flow-packed f rest k = ap flowWith (values-packed ListRecord (fieldsOf f) rest (keeps-fit f k))
+
+-- of six values of which the last two have no width, the first four are all
+pub four-values : (w x y z : ℕ) (vs : List ℕ) → Fit (w ∷ x ∷ y ∷ z ∷ 0 ∷ 0 ∷ []) vs → getD vs 0 0 ∷ getD vs 1 0 ∷ getD vs 2 0 ∷ getD vs 3 0 ∷ 0 ∷ 0 ∷ [] ≡ vs
+four-values w x y z (a ∷ b ∷ c ∷ d ∷ e ∷ g ∷ []) h =
+    let e₀ : e ≡ 0 = omega arith in
+    let g₀ : g ≡ 0 = omega arith in
+    rw (e₀, g₀)
+four-values w x y z [] h = absurd h
+four-values w x y z (a ∷ []) h = absurd (h .1)
+four-values w x y z (a ∷ b ∷ []) h = absurd (h .1 .1)
+four-values w x y z (a ∷ b ∷ c ∷ []) h = absurd (h .1 .1 .1)
+four-values w x y z (a ∷ b ∷ c ∷ d ∷ []) h = absurd (h .1 .1 .1 .1)
+four-values w x y z (a ∷ b ∷ c ∷ d ∷ e ∷ []) h = absurd (h .1 .1 .1 .1 .1)
+four-values w x y z (a ∷ b ∷ c ∷ d ∷ e ∷ g ∷ i ∷ vs) h = absurd (h .1 .1 .1 .1 .1 .1)
+
+-- and the bytes of a whole record are written back
+pub packed-flow : (s : List ℕ) → length s ≡ 6 → ((i : ℕ) → getD s i 0 < 256) → packedFlow (flowOf s) ≡ s
+unfolding flowOf packedFlow
+packed-flow s l b =
+    ap (packed ListRecord) (four-values 10 12 13 13 (valuesOf ListRecord s) (values-fit ListRecord s (omega arith))) ∙ packed-values ListRecord s l b

@@ -1,0 +1,6 @@
+pub mod Packed
+pub mod Turns
+pub mod Widths
+pub mod Records
+pub mod Flows
+pub mod Cases

@@ -1,0 +1,4 @@
+pub mod Packed
+pub mod Kinds
+pub mod Records
+pub mod Flows

@@ -1,0 +1,3 @@
+pub mod Lowest
+pub mod Chains
+pub mod Rooms

@@ -1,0 +1,50 @@
+-- Document 01's "Refusal numbers": the number and the place of each refusal. Assumes nothing.
+use Prim.Native.Nat.{ℕ}
+use Rattle.refusals.specs.declared.Refusal.{Refusal}
+use Rattle.refusals.specs.declared.Refusal.the-variants.{Length, Head, Count, Field, UsedNumber, Unrelated, Limits, Overload, Room, NoFrame, TableForm, NotRising, OtherCycle, UnknownFlow, GrantCount, Timing, Overlap, PastCycle, WindowEnds, Line}
+
+-- the refusal's number
+abbrev pub number : Refusal → ℕ
+number Length = 1
+number Head = 2
+number Count = 3
+number (Field p) = 4
+number (UsedNumber p) = 5
+number (Unrelated p) = 6
+number Limits = 7
+number Overload = 8
+number Room = 9
+number (NoFrame p) = 10
+number TableForm = 11
+number (NotRising p) = 12
+number OtherCycle = 13
+number (UnknownFlow p) = 14
+number (GrantCount p) = 15
+number (Timing p) = 16
+number (Overlap p) = 17
+number (PastCycle p) = 18
+number WindowEnds = 19
+number (Line p) = 20
+
+-- the record or line that it names, counted from 1; 0 where it names none
+abbrev pub place : Refusal → ℕ
+place Length = 0
+place Head = 0
+place Count = 0
+place (Field p) = p
+place (UsedNumber p) = p
+place (Unrelated p) = p
+place Limits = 0
+place Overload = 0
+place Room = 0
+place (NoFrame p) = p
+place TableForm = 0
+place (NotRising p) = p
+place OtherCycle = 0
+place (UnknownFlow p) = p
+place (GrantCount p) = p
+place (Timing p) = p
+place (Overlap p) = p
+place (PastCycle p) = p
+place WindowEnds = 0
+place (Line p) = p
