@@ -14,8 +14,8 @@ use Rattle.fields.specs.declared.flow.Rule.the-variants.{Kept, Broken}
 use Rattle.fields.specs.Packed.{Fit}
 use Rattle.fields.specs.Kinds.{widths}
 use Rattle.fields.specs.Records.{packed, valuesOf}
-use Rattle.fields.specs.Flows.{among, keeps, rule, fieldsOf, flowWith, flowOf, packedFlow}
-use Rattle.fields.proofs.Records.{length-packed, values-packed, packed-values, values-fit}
+use Rattle.fields.specs.Flows.{noFlow, among, keeps, rule, fieldsOf, flowWith, flowOf, packedFlow}
+use Rattle.fields.proofs.Records.{length-packed, values-short, values-packed, packed-values, values-fit}
 
 -- the rule, as orders
 pub record Keeps (f : Flow) : Type 0 where
@@ -73,6 +73,11 @@ keeps-fit f k = (omega arith, (omega arith, (omega arith, (omega arith, (lit< tt
 pub length-packed-flow : (f : Flow) → length (packedFlow f) ≡ 6
 unfolding packedFlow
 length-packed-flow f = length-packed ListRecord (fieldsOf f)
+
+-- fewer bytes than a record has are no record
+pub flow-short : (bs : List ℕ) → length bs < 6 → flowOf bs ≡ noFlow
+unfolding flowOf
+flow-short bs h = ap flowWith (values-short ListRecord bs h)
 
 -- a record is read back, whatever stands behind it
 pub flow-packed : (f : Flow) (rest : List ℕ) → Keeps f → flowOf (packedFlow f ++ rest) ≡ f

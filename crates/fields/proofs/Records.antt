@@ -23,6 +23,10 @@ module _ (kind : Kind) where
   unfolding reading
   reading-short s h = rw (lt-leb (bytes kind) (length s) h)
 
+  pub values-short : (s : List ℕ) → length s < bytes kind → valuesOf kind s ≡ replicate 6 0
+  unfolding valuesOf
+  values-short s h = rw (lt-leb (bytes kind) (length s) h)
+
   -- a whole record's values
   pub values-whole : (s : List ℕ) → bytes kind ≤ length s → valuesOf kind s ≡ unpack (widths kind) (bytes kind) (take (bytes kind) s)
   unfolding valuesOf
@@ -46,18 +50,18 @@ module _ (kind : Kind) where
     unfolding roomAfter
     room-is a e = ap (λ (x : Stored). afterwards x (packed kind vs ++ drop (bytes kind) room) room) e
 
-    pub ends-wide : fits (widths kind) vs ≡ false → (Wide ≡ stored kind vs (length room)) × (room ≡ roomAfter kind vs room)
+    pub ends-short : length room < bytes kind → (Short ≡ stored kind vs (length room)) × (room ≡ roomAfter kind vs room)
     unfolding stored
-    ends-wide f = let a : Wide ≡ stored kind vs (length room) = rw f in (a, room-is Wide a)
+    ends-short h = let a : Short ≡ stored kind vs (length room) = rw (lt-ltb (length room) (bytes kind) h) in (a, room-is Short a)
 
-    pub ends-short : fits (widths kind) vs ≡ true → length room < bytes kind → (Short ≡ stored kind vs (length room)) × (room ≡ roomAfter kind vs room)
+    pub ends-wide : bytes kind ≤ length room → fits (widths kind) vs ≡ false → (Wide ≡ stored kind vs (length room)) × (room ≡ roomAfter kind vs room)
     unfolding stored
-    ends-short f h = let a : Short ≡ stored kind vs (length room) = rw (f, lt-ltb (length room) (bytes kind) h) in (a, room-is Short a)
+    ends-wide h f = let a : Wide ≡ stored kind vs (length room) = rw (le-ltb (length room) (bytes kind) h, f) in (a, room-is Wide a)
 
     pub ends-done : fits (widths kind) vs ≡ true → bytes kind ≤ length room
         → (Done ≡ stored kind vs (length room)) × (packed kind vs ++ drop (bytes kind) room ≡ roomAfter kind vs room)
     unfolding stored
-    ends-done f h = let a : Done ≡ stored kind vs (length room) = rw (f, le-ltb (length room) (bytes kind) h) in (a, room-is Done a)
+    ends-done f h = let a : Done ≡ stored kind vs (length room) = rw (le-ltb (length room) (bytes kind) h, f) in (a, room-is Done a)
 
     -- what the calls gave: the size k, the number n and the bytes ys in the room's front
     pub ends-put : (k : ℕ) (ws : List ℕ) (n : ℕ) (ys : List ℕ) → k ≡ bytes kind → ws ≡ widths kind → fits (widths kind) vs ≡ true → k ≤ length room

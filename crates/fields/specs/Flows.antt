@@ -26,6 +26,10 @@ unfoldable pub rule : Flow → Rule
 unfolding keeps
 rule f = cond (keeps f) Kept Broken
 
+-- what is read where there is no record
+abbrev pub noFlow : Flow
+noFlow = record { number = 0; size = 0; interval = 0; jitter = 0 }
+
 -- the fields of a flow's record: number, size, interval, jitter
 abbrev pub fieldsOf : Flow → List ℕ
 fieldsOf f = f .number ∷ f .size ∷ f .interval ∷ f .jitter ∷ 0 ∷ 0 ∷ []

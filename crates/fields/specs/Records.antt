@@ -29,7 +29,7 @@ reading kind bs = record { whole = leb (bytes kind) (length bs); values = values
 -- what writing these values into a room of n bytes comes to
 unfoldable pub stored : Kind → List ℕ → ℕ → Stored
 unfolding fits
-stored kind vs n = cond (fits (widths kind) vs) (cond (ltb n (bytes kind)) Short Done) Wide
+stored kind vs n = cond (ltb n (bytes kind)) Short (cond (fits (widths kind) vs) Done Wide)
 
 -- what a room holds: the new bytes where the writing was done, and otherwise what it held
 abbrev pub afterwards : Stored → List ℕ → List ℕ → List ℕ

@@ -12,11 +12,11 @@ pub struct Reading {
     pub values: [u16; 6],
 }
 
-// What writing comes to: it is done, a value is too wide for its field, or the room is too short.
+// What writing comes to: it is done, the room is too short, or a value is too wide for its field.
 pub enum Stored {
     Done,
-    Wide,
     Short,
+    Wide,
 }
 
 // The record at the slice's front.
@@ -45,11 +45,11 @@ pub fn write(kind: Kind, values: [u16; 6], room: &mut [u8]) -> Stored
 {
     let k = kind.bytes();
     let widths = kind.widths();
-    if !bits::all_fit(values, widths) {
-        return Stored::Wide;
-    }
     if room.len() < k {
         return Stored::Short;
+    }
+    if !bits::all_fit(values, widths) {
+        return Stored::Wide;
     }
     let n = bits::joined(values, widths);
     bits::put(n, &mut room[0..k]);

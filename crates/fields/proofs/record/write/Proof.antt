@@ -14,6 +14,13 @@ use Rattle.fields.proofs.Widths.{narrow}
 use Rattle.fields.proofs.Records.{ends-wide, ends-short, ends-put}
 use Rattle.fields.proofs.record.write.Statement.{statement}
 use Rattle.fields.proofs.record.write.Tie as tie
+use Rattle.fields.proofs.record.write.Reads as reads
+use Rattle.fields.proofs.record.write.Lts as lts
+use Rattle.fields.proofs.bits.all_fit.Reads as all-fit-reads
+use Rattle.fields.proofs.bits.joined.Reads as joined-reads
+use Rattle.fields.proofs.bits.put.Reads as put-reads
+use Rattle.fields.proofs.kind.Kind.bytes.Reads as bytes-reads
+use Rattle.fields.proofs.kind.Kind.widths.Reads as widths-reads
 
 bytes-requires : tie.Need-bytes-requires
 bytes-requires c κs = search needs
@@ -21,30 +28,30 @@ bytes-requires c κs = search needs
 widths-requires : tie.Need-widths-requires
 widths-requires c κs = search needs
 
-all-fit-requires : tie.Need-all-fit-requires
-all-fit-requires c κs = rw (c .widths .ensures) (narrow (c .before .before .before .args .kind))
-
--- what the test says of the record
-test : (c : tie.After-all-fit) (b : Bool) → c .all-fit .result ≡ b → fits (widths (c .before .before .before .before .args .kind)) (c .before .before .before .before .args .values) ≡ b
-test c b e = sym (c .all-fit .ensures ∙ ap (λ (ws : List ℕ). fits ws (c .before .before .before .before .args .values)) (c .before .widths .ensures)) ∙ e
-
 returns : tie.Need-returns
 returns c =
-    let a = c .before .before .before .before .before .args in
-    ends-wide (a .kind) (a .values) (a .room .now) (test (c .before) false (not-true _ (c .if1 .taken)))
+    let a = c .before .before .before .before .args in
+    ends-short (a .kind) (a .values) (a .room .now) (omega arith)
+
+all-fit-requires : tie.Need-all-fit-requires
+all-fit-requires c κs = rw (c .before .widths .ensures) (narrow (c .before .before .before .before .args .kind))
+
+-- what the test says of the record
+test : (c : tie.After-all-fit) (b : Bool) → c .all-fit .result ≡ b
+    → fits (widths (c .before .before .before .before .before .args .kind)) (c .before .before .before .before .before .args .values) ≡ b
+test c b e =
+    sym (c .all-fit .ensures ∙ ap (λ (ws : List ℕ). fits ws (c .before .before .before .before .before .args .values)) (c .before .before .widths .ensures)) ∙ e
 
 returns-2 : tie.Need-returns-2
 returns-2 c =
-    let e = c .before in
-    let a = e .before .before .before .before .before .args in
-    ends-short (a .kind) (a .values) (a .room .now) (test (e .before) true (not-false _ (e .if1 .left))) (omega arith)
+    let a = c .before .before .before .before .before .before .args in
+    ends-wide (a .kind) (a .values) (a .room .now) (omega arith) (test (c .before) false (not-true _ (c .if2 .taken)))
 
 joined-requires : tie.Need-joined-requires
 joined-requires c κs =
-    let e = c .before in
-    let w = e .before .before in
+    let w = c .before .before .before in
     let a = w .before .before .before .args in
-    rw (w .widths .ensures) (narrow (a .kind), fits-fit (widths (a .kind)) (a .values) (test (e .before) true (not-false _ (e .if1 .left))))
+    rw (w .widths .ensures) (narrow (a .kind), fits-fit (widths (a .kind)) (a .values) (test (c .before) true (not-false _ (c .if2 .left))))
 
 sub-put : tie.Need-sub-put
 sub-put c = search needs
@@ -64,11 +71,11 @@ same-length c = search needs
 returns-3 : tie.Need-returns-3
 returns-3 c =
     let j = c .before .before .before .before in
-    let e = j .before .before in
-    let w = e .before .before in
+    let e = j .before in
+    let w = e .before .before .before in
     let a = w .before .before .before .args in
     ends-put (a .kind) (a .values) (a .room .now) (w .before .bytes .result) (w .widths .result) (j .joined .result) (c .before .before .put .last .1 .0)
-    (w .before .bytes .ensures) (w .widths .ensures) (test (e .before) true (not-false _ (e .if1 .left))) (omega arith)
+    (w .before .bytes .ensures) (w .widths .ensures) (test (e .before) true (not-false _ (e .if2 .left))) (omega arith)
     (j .joined .ensures) (c .before .before .put .ensures)
 
 pub write-spec : {M : Type 1} → statement M
@@ -77,8 +84,8 @@ write-spec =
     (tie.spec
     bytes-requires
     widths-requires
-    all-fit-requires
     returns
+    all-fit-requires
     returns-2
     joined-requires
     sub-put

@@ -1,0 +1,51 @@
+// The head and the records of a packed list, read and written.
+ghost use mathlib.Core.Path.{_≡_};
+ghost use lib.ListN.{length};
+ghost use Rattle.fields.specs.declared.kind.Kind.the-variants.{ListHead};
+ghost use Rattle.fields.specs.Records.{stored, roomAfter};
+ghost use Rattle.lists.specs.Lists.{count, flowAt, headFields, recordStored, recordAfter};
+use fields::Flow;
+use fields::Kind;
+use fields::Stored;
+
+// How many records the head says.
+pub fn count(list: &[u8]) -> usize
+    ensures { λ r. ⌜ r ≡ count (now (list .entry)) ⌝ }
+{
+    let head = fields::read(Kind::ListHead, list);
+    let values = head.values;
+    values[3] as usize
+}
+
+// The flow of record i, counted from 0; zeros where the list has no such record.
+pub fn flow_at(list: &[u8], i: usize) -> Flow
+    ensures { λ r. ⌜ r ≡ flowAt (now (list .entry)) i ⌝ }
+{
+    let end = list.len();
+    if end / 6 <= i {
+        return Flow::none();
+    }
+    let start = 4 + 6 * i;
+    fields::read_flow(&list[start..end])
+}
+
+// Puts the head of a list of n records at the room's front; the rest stays, and all of it where the answer is not `Done`.
+pub fn write_head(n: u16, room: &mut [u8]) -> Stored
+    ensures { λ r. ⌜ r ≡ stored ListHead (headFields n) (length (now (room .entry))) ⌝ }
+    ensures { λ _. ⌜ now (room .exit) ≡ roomAfter ListHead (headFields n) (now (room .entry)) ⌝ }
+{
+    fields::write(Kind::ListHead, [1, 1, 0, n, 0, 0], room)
+}
+
+// Puts the flow into the room as record i of a list; the rest stays, and all of it where the answer is not `Done`.
+pub fn write_record(f: Flow, i: usize, room: &mut [u8]) -> Stored
+    ensures { λ r. ⌜ r ≡ recordStored f i (length (now (room .entry))) ⌝ }
+    ensures { λ _. ⌜ now (room .exit) ≡ recordAfter f i (now (room .entry)) ⌝ }
+{
+    let end = room.len();
+    if end / 6 <= i {
+        return Stored::Short;
+    }
+    let start = 4 + 6 * i;
+    fields::write_flow(f, &mut room[start..end])
+}
