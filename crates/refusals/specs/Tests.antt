@@ -27,3 +27,8 @@ lowest refusal n (false ∷ ts) = Refused (refusal n)
 unfoldable pub against {ℓ} : {A : Type ℓ} → (List A → A → Bool) → List A → List A → List Bool
 against ok seen [] = []
 against ok seen (x ∷ xs) = ok seen x ∷ against ok (x ∷ seen) xs
+
+-- a test of an entry against the one before it; the first passes
+unfoldable pub after {ℓ} : {A : Type ℓ} → (A → A → Bool) → List A → A → Bool
+after ok [] x = true
+after ok (y ∷ seen) x = ok y x

@@ -1,0 +1,7 @@
+// The placing rule over the frames of a window.
+
+// The frame that takes a flow.
+pub enum Found {
+    At(usize),
+    Nowhere,
+}
