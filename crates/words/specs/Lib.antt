@@ -1,0 +1,5 @@
+pub mod Words
+pub mod Numerals
+pub mod Numbers
+pub mod Decimals
+pub mod Places
