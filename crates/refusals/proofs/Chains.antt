@@ -28,6 +28,15 @@ refused-first a b r e = rw e
 pub passed-first : (a b : Checked) → a ≡ Passed → (a ⟫ b) ≡ b
 passed-first a b e = rw e
 
+-- how a chain is cut does not matter
+pub chain-assoc : (a b c : Checked) → ((a ⟫ b) ⟫ c) ≡ (a ⟫ (b ⟫ c))
+chain-assoc Passed b c = refl
+chain-assoc (Refused r) b c = refl
+
+pub chain-passed : (a : Checked) → (a ⟫ Passed) ≡ a
+chain-passed Passed = refl
+chain-passed (Refused r) = refl
+
 -- a test that names no place, both ways
 module _ (t : Bool) (r : Refusal) where
   pub unless-yes : t ≡ true → unless t r ≡ Passed

@@ -1,6 +1,6 @@
 -- Digits and the number that they make, and a number at a place of a text. Assumes nothing.
 use mathlib.Core.Path.{_≡_, refl, sym, ap, ap₂, _∙_}
-use mathlib.Core.Bool.{Bool, true, false, not, true≢false}
+use mathlib.Core.Bool.{true, false, not, true≢false}
 use mathlib.Core.List.{List, [], _∷_}
 use Prim.Native.Nat.{ℕ, suc, _+_, _-_, _*_, _≤_, _<_, zero-le}
 use native.Mathlib.Nat.{le-refl, le-trans}
@@ -9,7 +9,7 @@ use native.Mathlib.Omega.{arith}
 use lib.Dec.{leb, ltb, eqb}
 use lib.ListN.{length, getD, take, drop, drop-of-length-le, length-drop}
 use lib.Seq.{drop-cons, take-all}
-use borrow.Author.Tests.{lt-ltb, lt-leb, le-leb, ne-eqb, leb-true, ltb-true, ltb-false}
+use borrow.Author.Tests.{lt-ltb, lt-leb, le-leb, ne-eqb, leb-true, ltb-true}
 use Rattle.logic.specs.Lists.{All}
 use Rattle.logic.proofs.Tests.{by-test, by-lt, and-both}
 use Rattle.words.specs.declared.number.Number.the-variants.{Is, Nothing}

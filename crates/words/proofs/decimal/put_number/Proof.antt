@@ -11,11 +11,6 @@ use Rattle.words.proofs.Places.{within-le, put-short, put-done}
 use borrow.Author.Needs.{needs}
 use Rattle.words.proofs.decimal.put_number.Statement.{statement}
 use Rattle.words.proofs.decimal.put_number.Tie as tie
-use Rattle.words.proofs.decimal.put_number.Reads as reads
-use Rattle.words.proofs.decimal.put_number.Lts as lts
-use Rattle.words.proofs.decimal.put_digits.Reads as put-digits-reads
-use Rattle.words.proofs.decimal.width.Reads as width-reads
-use Rattle.words.proofs.word.fits.Reads as fits-reads
 
 width-requires : tie.Need-width-requires
 width-requires c κs = search needs

@@ -6,10 +6,6 @@ use Rattle.words.proofs.Numbers.{after-beyond, after-none, after-found,
 use borrow.Author.Needs.{needs}
 use Rattle.words.proofs.number.number_after.Statement.{statement}
 use Rattle.words.proofs.number.number_after.Tie as tie
-use Rattle.words.proofs.number.number_after.Reads as reads
-use Rattle.words.proofs.number.number_after.Lts as lts
-use Rattle.words.proofs.number.number_at.Reads as number-at-reads
-use Rattle.words.proofs.word.begins.Reads as begins-reads
 
 returns : tie.Need-returns
 returns c = let s = c .before .before .before in after-beyond (s .args .s .now) (s .args .w .now) (s .args .at) (c .if1 .taken)

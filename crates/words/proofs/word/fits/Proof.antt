@@ -2,11 +2,8 @@
 -- Assumes nothing.
 use mathlib.Core.Path.{sym}
 use Rattle.words.proofs.Places.{within-long, within-rest}
-use borrow.Author.Needs.{needs}
 use Rattle.words.proofs.word.fits.Statement.{statement}
 use Rattle.words.proofs.word.fits.Tie as tie
-use Rattle.words.proofs.word.fits.Reads as reads
-use Rattle.words.proofs.word.fits.Lts as lts
 
 returns : tie.Need-returns
 returns c = sym (within-long _ _ _ (c .if1 .taken))

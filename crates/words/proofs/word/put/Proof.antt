@@ -7,10 +7,6 @@ use Rattle.words.proofs.Places.{within-le, put-short, put-done}
 use borrow.Author.Needs.{needs}
 use Rattle.words.proofs.word.put.Statement.{statement}
 use Rattle.words.proofs.word.put.Tie as tie
-use Rattle.words.proofs.word.put.Reads as reads
-use Rattle.words.proofs.word.put.Lts as lts
-use Rattle.words.proofs.word.copy.Reads as copy-reads
-use Rattle.words.proofs.word.fits.Reads as fits-reads
 
 fits-requires : tie.Need-fits-requires
 fits-requires c κs = search needs

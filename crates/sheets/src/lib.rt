@@ -1,0 +1,10 @@
+// The operator's sheet, a line of text for each flow: sheet to list, and list to sheet.
+//
+// The words of a line stand once, in `form`, and are compared when reading and written when printing. No public function asks
+// anything of its caller.
+mod form;
+mod line;
+mod pack;
+mod survey;
+
+pub use pack::list_from_sheet;
