@@ -4,3 +4,5 @@ pub mod Walk
 pub mod Tests
 pub mod Looks
 pub mod Packing
+pub mod Texts
+pub mod Printing

@@ -5,6 +5,7 @@
 mod form;
 mod line;
 mod pack;
+mod print;
 mod survey;
 
 pub use pack::list_from_sheet;
