@@ -1,3 +1,4 @@
 pub mod Lowest
+pub mod Walks
 pub mod Chains
 pub mod Rooms
