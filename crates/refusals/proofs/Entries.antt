@@ -42,3 +42,25 @@ module _ {ℓ} {A : Type ℓ} (ok : A → A → Bool) (R : A → A → Type 0) (
     λ e. pass-neighbours xs .0 (lowest-pass refusal n (against (after ok) [] xs) e),
     λ a. pass-lowest refusal n (against (after ok) [] xs) (pass-neighbours xs .1 a),
   )
+
+-- each entry and every later one
+abbrev pub Pairs {ℓ} : {A : Type ℓ} → (A → A → Type 0) → List A → Type 0
+Pairs R [] = Unit
+Pairs R (x ∷ xs) = All (R x) xs × Pairs R xs
+
+-- a test of an entry and every one before it
+module _ {ℓ} {A : Type ℓ} (ok : A → A → Bool) where
+  pass-pairs : (seen xs : List A) → Pass (against (λ seen x. every (λ y. ok y x) seen) seen xs)
+      → All (λ y. All (λ x. ok y x ≡ true) xs) seen × Pairs (λ y x. ok y x ≡ true) xs
+  unfolding against
+  pass-pairs seen [] p = (all-each (λ y. Unit) seen (λ y. tt), tt)
+  pass-pairs seen (x ∷ xs) p =
+      let ih = pass-pairs (x ∷ seen) xs (p .1) in (
+        all-both (λ y. ok y x ≡ true) (λ y. All (λ z. ok y z ≡ true) xs) (λ y. All (λ z. ok y z ≡ true) (x ∷ xs)) seen (λ y a b. (a, b))
+            (every-all (λ y. ok y x) seen (p .0)) (ih .0 .1),
+        (ih .0 .0, ih .1),
+      )
+
+  pub pairs-passed : (refusal : ℕ → Refusal) (n : ℕ) (xs : List A) → lowest refusal n (against (λ seen x. every (λ y. ok y x) seen) [] xs) ≡ Passed
+      → Pairs (λ y x. ok y x ≡ true) xs
+  pairs-passed refusal n xs e = pass-pairs [] xs (lowest-pass refusal n (against (λ seen x. every (λ y. ok y x) seen) [] xs) e) .1
