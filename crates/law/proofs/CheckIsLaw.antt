@@ -4,7 +4,7 @@ use mathlib.Core.Bool.{true}
 use mathlib.Core.Logic.{_↔_}
 use mathlib.Core.List.{List, []}
 use mathlib.Core.Option.{none}
-use Prim.Native.Nat.{ℕ, zero, suc, _+_, _*_, _/_, _≤_, _<_}
+use Prim.Native.Nat.{ℕ, zero, suc, _+_, _*_, _≤_, _<_}
 use native.Mathlib.Omega.{arith}
 use native.Mathlib.Nat.{div-eq-of-eq-mul-left}
 use lib.ListN.{length, length-map}
@@ -23,7 +23,7 @@ use Rattle.law.specs.Law.{Obeys, Law, Rising, Inside}
 use Rattle.law.proofs.Listed.{known-mem, look-mem, slots-pos}
 use Rattle.law.proofs.FlowGrants.{to-all, mem-to}
 use Rattle.law.proofs.Chains.{inside-chain, chain-once, once-clear}
-use Rattle.law.proofs.Times.{Follows, Punctual, times, first-prog, prog-first, every-times, times-every}
+use Rattle.law.proofs.Times.{Follows, Punctual, times, first-progression, progression-first, pass-times, times-pass}
 use Rattle.law.proofs.Rounds.{Round, round-obeys, obeys-round, round-early}
 use Rattle.law.proofs.Reading.{Reads, reads12, passes-reads}
 
@@ -38,9 +38,9 @@ module _ (fs : List Flow) (ok : Accepted fs) (tab : List Grant) where
       let fills : length gs * f .interval ≡ cycle fs =
       ap (λ (n : ℕ). n * f .interval) (all-mem (λ f. length (to (f .number) tab) ≡ grantsOf (cycle fs) f) fs (r .counted) f m) ∙ divides-cycle fs ok f m in
       let some : 0 < length gs = granted (length gs) fills in
-      let t = every-times 0 fs (ok .distinct) [] tab (r .listed) (r .timely) in
+      let t = pass-times 0 fs (ok .distinct) [] tab (r .listed) (r .timely) in
       let l : length (times 0 (f .number) tab) ≡ length gs = length-map gs (nominal 0) in
-      let p = first-prog (f .interval) (times 0 (f .number) tab) (t .follows f m) (rw l some) in (
+      let p = first-progression (f .interval) (times 0 (f .number) tab) (t .follows f m) (rw l some) in (
         p .0,
         p .1,
         record {
@@ -100,7 +100,7 @@ module _ (fs : List Flow) (ok : Accepted fs) (tab : List Grant) where
         let gs = to (f .number) tab in
         let t : o .0 < f .interval =
         omega (arith, round-early 0 (cycle fs) gs f (o .0) (o .1) (all-imp (λ r. (r .start < cycle fs) × (r .flow ≡ f .number)) (λ r. r .start < cycle fs) gs (λ r a. a .0) (to-all (λ r. r .start < cycle fs) (f .number) tab early))) in
-        rw (o .1 .times) (prog-first (f .interval) (o .0) (length gs) t)
+        rw (o .1 .times) (progression-first (f .interval) (o .0) (length gs) t)
 
     law-reads : Reads fs tab
     unfolding last grantsOf
@@ -111,7 +111,7 @@ module _ (fs : List Flow) (ok : Accepted fs) (tab : List Grant) where
               mem-all (λ f. length (to (f .number) tab) ≡ grantsOf (cycle fs) f) fs
               (λ f m. sym (div-eq-of-eq-mul-left (interval-pos fs ok f m) (sym (round f m .1 .fills))));
           timely =
-              times-every 0 fs (ok .distinct) [] tab (law .listed) (record { punctual = mem-all (Punctual 0 fs) tab punctual; follows = follows });
+              times-pass 0 fs (ok .distinct) [] tab (law .listed) (record { punctual = mem-all (Punctual 0 fs) tab punctual; follows = follows });
           clear = once-clear 0 fs tab rises sized (law .once);
           inside = inside;
         }

@@ -6,11 +6,11 @@ use mathlib.Core.List.{List}
 use Prim.Native.Nat.{ℕ}
 use lib.Dec.{eqb}
 use borrow.Author.Tests.{eqb-true, eq-eqb}
-use Rattle.logic.proofs.Tests.{and-both, both-and}
+use Rattle.logic.proofs.Tests.{and-both}
 use Rattle.refusals.specs.declared.Refusal.the-variants.{OtherCycle}
 use Rattle.refusals.specs.declared.Checked.the-variants.{Passed}
 use Rattle.refusals.specs.Tests.{_⟫_}
-use Rattle.refusals.proofs.Chains.{both-passed, passed-both, unless-yes, unless-passed}
+use Rattle.refusals.proofs.Chains.{both-passed, unless-passed}
 use Rattle.lists.specs.Lists.{flowsOf}
 use Rattle.lists.specs.Facts.{cycle, frame}
 use Rattle.lists.specs.Tests.{tests1to7}

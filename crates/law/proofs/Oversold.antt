@@ -19,7 +19,7 @@ use Rattle.law.specs.Check.{slots, to, tests14to18, check}
 use Rattle.law.proofs.Counting.{counting}
 use Rattle.law.proofs.Chains.{inside-chain, chain-sum}
 use Rattle.law.proofs.Reading.{Reads, passes-reads}
-use Rattle.law.proofs.Demand.{Parts, check-parts}
+use Rattle.law.proofs.Demand.{check-parts}
 
 module _ (fs : List Flow) (d : Distinct fs) (tab : List Grant) (pass : tests14to18 fs tab ≡ Passed) where
   reads : Reads fs tab

@@ -11,7 +11,7 @@ use Rattle.fields.specs.declared.flow.Flow.{Flow}
 use Rattle.refusals.specs.declared.Refusal.the-variants.{NotRising, UnknownFlow, GrantCount, Timing, Overlap, PastCycle}
 use Rattle.refusals.specs.declared.Checked.the-variants.{Passed}
 use Rattle.refusals.specs.Tests.{_⟫_, against}
-use Rattle.refusals.proofs.Chains.{both-passed, passed-both}
+use Rattle.refusals.proofs.Chains.{both-passed}
 use Rattle.refusals.proofs.Lowest.{Pass, lowest-pass, pass-lowest}
 use Rattle.refusals.proofs.Entries.{each-passed, neighbours-passed}
 use Rattle.lists.specs.Facts.{cycle, grantsOf}

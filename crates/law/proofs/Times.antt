@@ -29,27 +29,27 @@ abbrev pub Follows : ℕ → Option ℕ → List ℕ → Type 0
 Follows i p [] = Unit
 Follows i p (n ∷ ns) = (steps i p n ≡ true) × Follows i (some n) ns
 
-follows-prog : (i p : ℕ) (ns : List ℕ) → Follows i (some p) ns → ns ≡ progression (p + i) i (length ns)
+follows-progression : (i p : ℕ) (ns : List ℕ) → Follows i (some p) ns → ns ≡ progression (p + i) i (length ns)
 unfolding steps progression
-follows-prog i p [] h = refl
-follows-prog i p (n ∷ ns) h =
+follows-progression i p [] h = refl
+follows-progression i p (n ∷ ns) h =
     let e : n ≡ p + i = eqb-true n (p + i) (h .0) in
-    rw (← e) (ap (λ (l : List ℕ). n ∷ l) (follows-prog i n ns (h .1)))
+    rw (← e) (ap (λ (l : List ℕ). n ∷ l) (follows-progression i n ns (h .1)))
 
-prog-follows : (i p n : ℕ) → Follows i (some p) (progression (p + i) i n)
+progression-follows : (i p n : ℕ) → Follows i (some p) (progression (p + i) i n)
 unfolding steps progression
-prog-follows i p zero = tt
-prog-follows i p (suc n) = (eq-eqb (p + i) (p + i) refl, prog-follows i (p + i) n)
+progression-follows i p zero = tt
+progression-follows i p (suc n) = (eq-eqb (p + i) (p + i) refl, progression-follows i (p + i) n)
 
-pub first-prog : (i : ℕ) (ns : List ℕ) → Follows i none ns → 0 < length ns → (t : ℕ) × (t < i) × (ns ≡ progression t i (length ns))
+pub first-progression : (i : ℕ) (ns : List ℕ) → Follows i none ns → 0 < length ns → (t : ℕ) × (t < i) × (ns ≡ progression t i (length ns))
 unfolding steps progression
-first-prog i [] h k = absurd (omega arith)
-first-prog i (n ∷ ns) h k = (n, ltb-true n i (h .0), ap (λ (l : List ℕ). n ∷ l) (follows-prog i n ns (h .1)))
+first-progression i [] h k = absurd (omega arith)
+first-progression i (n ∷ ns) h k = (n, ltb-true n i (h .0), ap (λ (l : List ℕ). n ∷ l) (follows-progression i n ns (h .1)))
 
-pub prog-first : (i t n : ℕ) → t < i → Follows i none (progression t i n)
+pub progression-first : (i t n : ℕ) → t < i → Follows i none (progression t i n)
 unfolding steps progression
-prog-first i t zero h = tt
-prog-first i t (suc n) h = (lt-ltb t i h, prog-follows i t n)
+progression-first i t zero h = tt
+progression-first i t (suc n) h = (lt-ltb t i h, progression-follows i t n)
 
 -- late neither over the jitter nor over the start
 abbrev pub Punctual : ℕ → List Flow → Grant → Type 0
@@ -78,12 +78,12 @@ unfolding timely
 timely-is z fs seen r p h = rw (le-leb (r .late) (look fs (r .flow) .jitter) (p .0), timely) (rw (le-leb (r .late) (z + r .start) (p .1)) h)
 
 module _ (z : ℕ) (fs : List Flow) (d : Distinct fs) where
-  pub every-times : (seen rs : List Grant) → All (λ r. known fs (r .flow) ≡ true) rs → Pass (against (timely z fs) seen rs) → Times z fs seen rs
+  pub pass-times : (seen rs : List Grant) → All (λ r. known fs (r .flow) ≡ true) rs → Pass (against (timely z fs) seen rs) → Times z fs seen rs
   unfolding to last against
-  every-times seen [] k e = record { punctual = tt; follows = λ f m. tt }
-  every-times seen (r ∷ rs) k e =
+  pass-times seen [] k e = record { punctual = tt; follows = λ f m. tt }
+  pass-times seen (r ∷ rs) k e =
       let a = timely-inv z fs seen r (e .0) in
-      let ih = every-times (r ∷ seen) rs (k .1) (e .1) in
+      let ih = pass-times (r ∷ seen) rs (k .1) (e .1) in
       record {
         punctual = (a .0, ih .punctual);
         follows = λ f m.
@@ -95,14 +95,14 @@ module _ (z : ℕ) (fs : List Flow) (d : Distinct fs) where
             (λ q. rw (q, to) (rw (q, last) at (ih .follows f m)));
       }
 
-  pub times-every : (seen rs : List Grant) → All (λ r. known fs (r .flow) ≡ true) rs → Times z fs seen rs → Pass (against (timely z fs) seen rs)
+  pub times-pass : (seen rs : List Grant) → All (λ r. known fs (r .flow) ≡ true) rs → Times z fs seen rs → Pass (against (timely z fs) seen rs)
   unfolding to last against
-  times-every seen [] k t = tt
-  times-every seen (r ∷ rs) k t =
+  times-pass seen [] k t = tt
+  times-pass seen (r ∷ rs) k t =
       let g = known-mem fs (r .flow) (k .0) in
       let own = rw (eq-eqb (r .flow) (look fs (r .flow) .number) (sym (g .1)), to) at (t .follows (look fs (r .flow)) (g .0)) in (
         timely-is z fs seen r (t .punctual .0) (rw (g .1) at (own .0)),
-        times-every (r ∷ seen) rs (k .1) (record {
+        times-pass (r ∷ seen) rs (k .1) (record {
           punctual = t .punctual .1;
           follows = λ f m.
               by-test (eqb (r .flow) (f .number))

@@ -2,12 +2,10 @@
 use mathlib.Core.Path.{_≡_, refl, sym, ap}
 use mathlib.Core.Bool.{true, not, _&&_}
 use mathlib.Core.List.{List, [], _∷_}
-use Prim.Native.Nat.{ℕ, zero, suc, _/_, _≤_}
-use native.Mathlib.Omega.{arith}
+use Prim.Native.Nat.{ℕ, zero, suc, _/_}
 use lib.Dec.{leb, eqb}
 use lib.ListN.{length}
 use borrow.Author.Tests.{leb-true, eq-eqb}
-use Rattle.logic.specs.Lists.{every}
 use Rattle.logic.proofs.Tests.{true-not-false, and-both}
 use Rattle.logic.proofs.Members.{all-imp}
 use Rattle.fields.specs.declared.flow.Flow.{Flow}
