@@ -1,1 +1,4 @@
 pub mod Tests
+pub mod Members
+pub mod Sums
+pub mod Progressions

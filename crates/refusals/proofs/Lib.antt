@@ -2,3 +2,4 @@ pub mod Lowest
 pub mod Walks
 pub mod Chains
 pub mod Rooms
+pub mod Entries
