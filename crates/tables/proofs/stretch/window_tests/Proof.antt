@@ -1,0 +1,37 @@
+-- `tables::stretch::window_tests` meets its contract.
+-- Assumes nothing.
+use mathlib.Core.Path.{sym, _∙_}
+use borrow.Author.Needs.{needs}
+use Rattle.refusals.proofs.Chains.{refused-first, passed-first}
+use Rattle.tables.specs.Window.{windowTests}
+use Rattle.tables.proofs.stretch.window_tests.Statement.{statement}
+use Rattle.tables.proofs.stretch.window_tests.Tie as tie
+use Rattle.tables.proofs.stretch.window_tests.Reads as reads
+use Rattle.tables.proofs.stretch.window_tests.Lts as lts
+use Rattle.tables.proofs.form.form_tests.Reads as form-tests-reads
+use Rattle.tables.proofs.stretch.test_19.Reads as test-19-reads
+
+form-tests-requires : tie.Need-form-tests-requires
+form-tests-requires c κs = search needs
+
+enum-known-form : tie.Need-enum-known-form
+enum-known-form c = search needs
+
+returns : tie.Need-returns
+unfolding windowTests
+returns c = sym (refused-first _ _ _ (sym (c .before .before .before .form-tests .ensures) ∙ c .before .form .given .1))
+
+enum-told : tie.Need-enum-told
+enum-told c = search needs
+
+test-19-requires : tie.Need-test-19-requires
+test-19-requires c κs = search needs
+
+returns-2 : tie.Need-returns-2
+unfolding windowTests
+returns-2 c = c .test-19 .ensures ∙ sym (passed-first _ _ (sym (c .before .before .before .form-tests .ensures) ∙ c .before .enum-told .given .1))
+
+pub window-tests-spec : {M : Type 1} → statement M
+window-tests-spec =
+    tie.close
+    (tie.spec form-tests-requires enum-known-form returns enum-told test-19-requires returns-2)
