@@ -1,9 +1,8 @@
 -- What the tests of a list answer, both ways. Assumes nothing.
 use mathlib.Core.Path.{_≡_, refl, sym, ap, _∙_}
-use mathlib.Core.Bool.{Bool, true, false, _&&_, and-false}
+use mathlib.Core.Bool.{Bool, true, _&&_}
 use mathlib.Core.List.{List}
 use Prim.Native.Nat.{ℕ, _/_, _≤_, _<_}
-use native.Mathlib.Omega.{arith}
 use lib.Dec.{leb, eqb}
 use lib.ListN.{length, getD}
 use borrow.Author.Tests.{lt-leb, le-leb, eq-eqb, ne-eqb, leb-true, eqb-true}
@@ -12,12 +11,15 @@ use Rattle.fields.specs.declared.flow.Flow.{Flow}
 use Rattle.fields.specs.Flows.{among}
 use Rattle.refusals.specs.declared.Refusal.{Refusal}
 use Rattle.refusals.specs.declared.Refusal.the-variants.{Length, Head, Count, Limits}
+use Rattle.refusals.specs.declared.Checked.{Checked}
 use Rattle.refusals.specs.declared.Checked.the-variants.{Passed, Refused}
-use Rattle.refusals.specs.Tests.{unless}
-use Rattle.refusals.proofs.Chains.{unless-yes, unless-no, unless-passed}
-use Rattle.lists.specs.Lists.{headOf, count, place}
+use Rattle.refusals.specs.Tests.{unless, _⟫_}
+use Rattle.refusals.proofs.Chains.{unless-no, unless-passed, chain-assoc}
+use Rattle.lists.specs.Lists.{headOf, count, place, flowsOf}
 use Rattle.lists.specs.Facts.{cycle, frame, grants}
-use Rattle.lists.specs.Tests.{test1, test2, test3, test1exact, test7}
+use Rattle.lists.specs.Tests.{test1, test2, test3, test1exact, test4, newNumber, test5, relatedInterval, test6, test7, tests1to4, tests1to7}
+use Rattle.lists.specs.declared.pairs.Pair.the-variants.{Number, Interval}
+use Rattle.lists.specs.Parts.{pairTest}
 
 -- a test that would say what is not so fails
 fails : (t : Bool) (r : Refusal) (P : Type 0) → (t ≡ true → P) → (P → ⊥) → unless t r ≡ Refused r
@@ -103,3 +105,25 @@ limited fs h = rw (le-leb _ 256 (h .0), le-leb _ 1024 (h .1))
 pub limited-passed : (fs : List Flow) → test7 fs ≡ Passed → Limited fs
 unfolding test7
 limited-passed fs e = limited-says fs (unless-passed _ Limits e)
+
+-- tests 1 to 4 are those of the head and the length, and then test 4
+pub head-first : (l : List ℕ) → tests1to4 l ≡ ((test1 l ⟫ test2 l ⟫ test3 (count l) ⟫ test1exact l) ⟫ test4 (flowsOf l))
+unfolding tests1to4
+head-first l =
+    sym
+    (chain-assoc (test1 l) _ _
+    ∙ ap (λ (c : Checked). test1 l ⟫ c) (chain-assoc (test2 l) _ _ ∙ ap (λ (c : Checked). test2 l ⟫ c) (chain-assoc (test3 (count l)) (test1exact l) (test4 (flowsOf l)))))
+
+-- tests 5 and 6 as the code has them
+pub number-test : (fs : List Flow) → test5 fs ≡ pairTest Number fs
+unfolding test5 newNumber
+number-test fs = refl
+
+pub interval-test : (fs : List Flow) → test6 fs ≡ pairTest Interval fs
+unfolding test6 relatedInterval
+interval-test fs = refl
+
+-- tests 1 to 7 in their order
+pub in-order : (l : List ℕ) → tests1to7 l ≡ (tests1to4 l ⟫ test5 (flowsOf l) ⟫ test6 (flowsOf l) ⟫ test7 (flowsOf l))
+unfolding tests1to7
+in-order l = refl

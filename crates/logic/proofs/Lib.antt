@@ -1,2 +1,5 @@
 pub mod Tests
+pub mod Members
+pub mod Sums
+pub mod Progressions
 pub mod Rooms
