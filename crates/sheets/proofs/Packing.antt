@@ -1,6 +1,7 @@
 -- The records of a sheet's flows written into a room, one after another. Assumes nothing.
 use mathlib.Core.Path.{_≡_, refl, sym, ap, ap₂, _∙_}
-use mathlib.Core.List.{List, _++_, map}
+use mathlib.Core.Bool.{true}
+use mathlib.Core.List.{List, _++_}
 use Prim.Native.Nat.{ℕ, _+_, _-_, _≤_, _<_}
 use native.Mathlib.Omega.{arith}
 use lib.ListN.{length, take, drop, length-append}
@@ -11,7 +12,7 @@ use Rattle.fields.specs.declared.flow.Flow.{Flow}
 use Rattle.fields.specs.Records.{roomAfter}
 use Rattle.fields.specs.Flows.{keeps, packedFlow}
 use Rattle.fields.proofs.Flows.{keeps-is, length-packed-flow}
-use Rattle.refusals.proofs.Lowest.{Pass}
+use Rattle.logic.specs.Lists.{All}
 use Rattle.lists.specs.Lists.{headFields, head, place, records, listOf, recordAfter}
 use Rattle.lists.proofs.Writing.{head-written, records-none, records-is, record-written, length-list, list-written}
 use Rattle.sheets.specs.declared.line.Line.{Line}
@@ -23,11 +24,11 @@ use Rattle.sheets.proofs.Walk.{line-within, flows-next, flows-done}
 pub record PackAt (s room₀ : List ℕ) (at i : ℕ) (room : List ℕ) : Type 0 where
   pub inside : at ≤ length s
   pub same : length room ≡ length room₀
-  pub kept : Pass (map keeps (flowsIn (drop at s)))
+  pub kept : All (λ f. keeps f ≡ true) (flowsIn (drop at s))
   pub room-left : place i + length (records (flowsIn (drop at s))) ≡ 4 + length (records (flowsIn s))
   pub writes : sets room (place i) (records (flowsIn (drop at s))) ≡ sets room₀ 4 (records (flowsIn s))
 
-pub pack-start : (s room : List ℕ) → Pass (map keeps (flowsIn s)) → PackAt s room 0 0 room
+pub pack-start : (s room : List ℕ) → All (λ f. keeps f ≡ true) (flowsIn s) → PackAt s room 0 0 room
 pack-start s room p = record { inside = omega arith; same = refl; kept = p; room-left = refl; writes = refl }
 
 module _ (s room₀ : List ℕ) (at i : ℕ) (room : List ℕ) (pack : PackAt s room₀ at i room) where

@@ -1,6 +1,7 @@
 -- The tests of a sheet in their order, and what looking through it finds. Assumes nothing.
 use mathlib.Core.Path.{_≡_, refl, ap}
-use mathlib.Core.List.{List, map}
+use mathlib.Core.Bool.{true}
+use mathlib.Core.List.{List}
 use Prim.Native.Nat.{ℕ, _≤_}
 use native.Mathlib.Omega.{arith}
 use lib.ListN.{length}
@@ -9,7 +10,8 @@ use Rattle.refusals.specs.declared.Checked.{Checked}
 use Rattle.refusals.specs.declared.Checked.the-variants.{Passed, Refused}
 use Rattle.refusals.specs.declared.Refusal.the-variants.{Field}
 use Rattle.refusals.proofs.Chains.{both-passed}
-use Rattle.refusals.proofs.Lowest.{Pass, lowest-pass}
+use Rattle.logic.specs.Lists.{All}
+use Rattle.refusals.proofs.Entries.{each-passed}
 use Rattle.fields.specs.Flows.{keeps}
 use Rattle.lists.specs.Tests.{test3, test4}
 use Rattle.lists.proofs.Verdicts.{few-passed}
@@ -65,7 +67,7 @@ pub record Sound (s : List ℕ) : Type 0 where
   pub formed : test20 s ≡ Passed
   pub some : 1 ≤ length (flowsIn s)
   pub few : length (flowsIn s) ≤ 128
-  pub kept : Pass (map keeps (flowsIn s))
+  pub kept : All (λ f. keeps f ≡ true) (flowsIn s)
 
 pub sound : (s : List ℕ) → sheetTests s ≡ Passed → Sound s
 unfolding sheetTests test4
@@ -73,4 +75,4 @@ sound s e =
     let a = both-passed (test20 s) _ e in
     let b = both-passed (test3 (length (flowsIn s))) _ (a .1) in
     let n = few-passed (length (flowsIn s)) (b .0) in
-    record { formed = a .0; some = n .0; few = n .1; kept = lowest-pass Field 1 (map keeps (flowsIn s)) (b .1) }
+    record { formed = a .0; some = n .0; few = n .1; kept = each-passed keeps (λ f. keeps f ≡ true) (λ f. (λ t. t, λ t. t)) Field 1 (flowsIn s) .0 (b .1) }

@@ -9,3 +9,4 @@ mod print;
 mod survey;
 
 pub use pack::list_from_sheet;
+pub use print::sheet_from_list;

@@ -1,10 +1,10 @@
 // Sheet to list.
 ghost use mathlib.Core.Path.{_≡_};
-ghost use mathlib.Core.List.{map};
+ghost use mathlib.Core.Bool.{true};
 ghost use Prim.Native.Nat.{_+_, _≤_};
 ghost use lib.ListN.{length};
 ghost use lib.Seq.{sets};
-ghost use Rattle.refusals.proofs.Lowest.{Pass};
+ghost use Rattle.logic.specs.Lists.{All};
 ghost use Rattle.fields.specs.Flows.{keeps};
 ghost use Rattle.lists.specs.Lists.{records};
 ghost use Rattle.sheets.specs.Readings.{flowsIn};
@@ -18,7 +18,7 @@ use refusals::Written;
 
 // Writes the record of each line's flow into the room, from behind a list's head on; the rest stays.
 fn put_records(sheet: &[u8], room: &mut [u8])
-    requires { ⌜ Pass (map keeps (flowsIn (now sheet))) ⌝ }
+    requires { ⌜ All (λ f. keeps f ≡ true) (flowsIn (now sheet)) ⌝ }
     requires { ⌜ 4 + length (records (flowsIn (now sheet))) ≤ length (now room) ⌝ }
     ensures { λ _. ⌜ now (room .exit) ≡ sets (now (room .entry)) 4 (records (flowsIn (now (sheet .entry)))) ⌝ }
 {

@@ -80,3 +80,21 @@ fn put_text(list: &[u8], n: usize, room: &mut [u8])
         at = put_line(f, room, at);
     }
 }
+
+// List to sheet: tests 1 to 4 and 9, and the sheet at the room's front.
+pub fn sheet_from_list(list: &[u8], room: &mut [u8]) -> Written
+    ensures { λ r. ⌜ r ≡ sheetAnswer (now (list .entry)) (length (now (room .entry))) ⌝ }
+    ensures { λ _. ⌜ now (room .exit) ≡ sheetRoom (now (list .entry)) (now (room .entry)) ⌝ }
+{
+    let checked = lists::tests_1_to_4(list);
+    if let Checked::Refused(r) = checked {
+        return Written::Refused(r);
+    }
+    let n = lists::count(list);
+    let size = text_size(list, n);
+    if room.len() < size {
+        return Written::Refused(Refusal::Room);
+    }
+    put_text(list, n, room);
+    Written::Bytes(size)
+}
