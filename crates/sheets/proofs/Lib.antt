@@ -6,3 +6,4 @@ pub mod Looks
 pub mod Packing
 pub mod Texts
 pub mod Printing
+pub mod Forms
