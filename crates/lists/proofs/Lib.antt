@@ -3,3 +3,4 @@ pub mod Turns
 pub mod Verdicts
 pub mod Cycle
 pub mod Accepted
+pub mod RoundTrip
