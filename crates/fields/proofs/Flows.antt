@@ -5,7 +5,7 @@ use mathlib.Core.List.{List, [], _∷_, _++_}
 use Prim.Native.Nat.{ℕ, _≤_, _<_}
 use native.Mathlib.Omega.{arith}
 use lib.Dec.{leb, lit<}
-use lib.ListN.{length, getD}
+use lib.ListN.{length, getD, take}
 use borrow.Author.Tests.{lt-ltb, le-leb, ltb-true, leb-true}
 use Rattle.logic.proofs.Tests.{by-test, and-both}
 use Rattle.fields.specs.declared.kind.Kind.the-variants.{ListRecord}
@@ -16,7 +16,7 @@ use Rattle.fields.specs.Kinds.{widths}
 use Rattle.fields.specs.Records.{packed, valuesOf}
 use Rattle.fields.specs.Flows.{noFlow, among, keeps, rule, fieldsOf, flowWith, flowOf, packedFlow}
 use Rattle.fields.proofs.Packed.{fit-length, six-values}
-use Rattle.fields.proofs.Records.{length-packed, values-short, values-packed, packed-values, values-fit}
+use Rattle.fields.proofs.Records.{length-packed, values-short, values-packed, packed-front, values-fit}
 
 -- the rule, as orders
 pub record Keeps (f : Flow) : Type 0 where
@@ -104,7 +104,6 @@ four-values w x y z vs h =
     rw (e, g) at six
 
 -- and the bytes of a whole record are written back
-pub packed-flow : (s : List ℕ) → length s ≡ 6 → ((i : ℕ) → getD s i 0 < 256) → packedFlow (flowOf s) ≡ s
+pub packed-flow : (s : List ℕ) → 6 ≤ length s → ((i : ℕ) → getD s i 0 < 256) → packedFlow (flowOf s) ≡ take 6 s
 unfolding flowOf packedFlow
-packed-flow s l b =
-    ap (packed ListRecord) (four-values 10 12 13 13 (valuesOf ListRecord s) (values-fit ListRecord s (omega arith))) ∙ packed-values ListRecord s l b
+packed-flow s h b = ap (packed ListRecord) (four-values 10 12 13 13 (valuesOf ListRecord s) (values-fit ListRecord s h)) ∙ packed-front ListRecord s h b

@@ -3,4 +3,5 @@ pub mod Turns
 pub mod Verdicts
 pub mod Cycle
 pub mod Accepted
+pub mod RoundTrip
 pub mod Writing

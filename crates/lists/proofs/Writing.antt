@@ -1,10 +1,10 @@
 -- A list written: its head and its records, each at its place. Assumes nothing.
 use mathlib.Core.Path.{_≡_, refl, sym, ap, _∙_}
 use mathlib.Core.List.{List, [], _∷_, _++_}
-use Prim.Native.Nat.{ℕ, _+_, _*_, _≤_, _<_}
+use Prim.Native.Nat.{ℕ, _+_, _≤_, _<_}
 use native.Mathlib.Omega.{arith}
 use lib.Dec.{lit<}
-use lib.ListN.{length, take, drop, length-append, length-drop}
+use lib.ListN.{length, take, drop, length-drop}
 use lib.Seq.{sets, drop-drop}
 use Rattle.logic.proofs.Rooms.{sets-append, sets-front, sets-between}
 use Rattle.fields.specs.declared.kind.Kind.the-variants.{ListHead, ListRecord}
@@ -13,13 +13,10 @@ use Rattle.fields.specs.Kinds.{widths}
 use Rattle.fields.specs.Records.{roomAfter}
 use Rattle.fields.specs.Flows.{fieldsOf, packedFlow}
 use Rattle.fields.proofs.Packed.{fit-fits}
-use Rattle.fields.proofs.Records.{ends-done, length-packed}
+use Rattle.fields.proofs.Records.{ends-done}
 use Rattle.fields.proofs.Flows.{Keeps, keeps-fit, length-packed-flow}
 use Rattle.lists.specs.Lists.{headFields, head, place, records, listOf, recordAfter}
-
-pub length-head : (n : ℕ) → length (head n) ≡ 4
-unfolding head
-length-head n = length-packed ListHead (headFields n)
+use Rattle.lists.proofs.RoundTrip.{length-head}
 
 -- the head, where its count fits 16 bits
 pub head-written : (n : ℕ) (room : List ℕ) → n < 65536 → 4 ≤ length room → roomAfter ListHead (headFields n) room ≡ sets room 0 (head n)
@@ -48,24 +45,12 @@ pub records-is : (f : Flow) (fs : List Flow) → records (f ∷ fs) ≡ packedFl
 unfolding records
 records-is f fs = refl
 
-pub length-records : (fs : List Flow) → length (records fs) ≡ 6 * length fs
-length-records [] = ap length records-none
-length-records (f ∷ fs) =
-    ap length (records-is f fs) ∙ length-append (packedFlow f) (records fs) ∙ omega (arith, length-packed-flow f, length-records fs)
-
-pub list-is : (fs : List Flow) → listOf fs ≡ head (length fs) ++ records fs
-unfolding listOf
-list-is fs = refl
-
-pub length-list : (fs : List Flow) → length (listOf fs) ≡ place (length fs)
-length-list fs =
-    ap length (list-is fs) ∙ length-append (head (length fs)) (records fs) ∙ omega (arith, length-head (length fs), length-records fs)
-
 -- the head, and the records behind it
 pub list-written : (fs : List Flow) (room : List ℕ) → length (listOf fs) ≤ length room
     → sets (sets room 0 (head (length fs))) 4 (records fs) ≡ listOf fs ++ drop (length (listOf fs)) room
+unfolding listOf
 list-written fs room h =
     let four : 4 ≡ 0 + length (head (length fs)) = omega (arith, length-head (length fs)) in
     ap (λ (k : ℕ). sets (sets room 0 (head (length fs))) k (records fs)) four
     ∙ sym (sets-append room 0 (head (length fs)) (records fs))
-    ∙ ap (sets room 0) (sym (list-is fs)) ∙ sets-front (listOf fs) room h
+    ∙ sets-front (listOf fs) room h

@@ -14,7 +14,8 @@ use Rattle.fields.specs.Flows.{keeps, packedFlow}
 use Rattle.fields.proofs.Flows.{keeps-is, length-packed-flow}
 use Rattle.logic.specs.Lists.{All}
 use Rattle.lists.specs.Lists.{headFields, head, place, records, listOf, recordAfter}
-use Rattle.lists.proofs.Writing.{head-written, records-none, records-is, record-written, length-list, list-written}
+use Rattle.lists.proofs.RoundTrip.{length-list}
+use Rattle.lists.proofs.Writing.{head-written, records-none, records-is, record-written, list-written}
 use Rattle.sheets.specs.declared.line.Line.{Line}
 use Rattle.sheets.specs.Lines.{lineSize}
 use Rattle.sheets.specs.Readings.{flowIn, read, flowsIn}

@@ -8,11 +8,7 @@ use lib.ListN.{length, length-append}
 use lib.Seq.{sets}
 use Rattle.logic.proofs.Rooms.{sets-append}
 use Rattle.fields.specs.declared.flow.Flow.{Flow}
-use Rattle.refusals.specs.declared.Checked.the-variants.{Passed}
-use Rattle.refusals.proofs.Chains.{both-passed}
 use Rattle.lists.specs.Lists.{count, flowAt, flowsFrom, flowsOf}
-use Rattle.lists.specs.Tests.{test1, test2, test3, tests1to4}
-use Rattle.lists.proofs.Verdicts.{few-passed}
 use Rattle.sheets.specs.Texts.{line, text}
 use Rattle.sheets.proofs.Texts.{text-none, text-is}
 
@@ -44,15 +40,8 @@ module _ (l : List ℕ) (n i : ℕ) where
         → sets room at (text (left l n i)) ≡ sets (sets room at (line f)) (at + length (line f)) (text (left l n (i + 1)))
     text-written room at = ap (sets room at) text-next ∙ sets-append room at (line f) (text (left l n (i + 1)))
 
--- ---- what is known of a list that passes
+-- the flows of as many records as the head says are the list's
 
 pub flows-of : (l : List ℕ) (n : ℕ) → n ≡ count l → flowsFrom l 0 n ≡ flowsOf l
 unfolding flowsOf
 flows-of l n e = ap (flowsFrom l 0) e
-
-pub count-le : (l : List ℕ) → tests1to4 l ≡ Passed → count l ≤ 128
-unfolding tests1to4
-count-le l e =
-    let a = both-passed (test1 l) _ e in
-    let b = both-passed (test2 l) _ (a .1) in
-    few-passed (count l) (both-passed (test3 (count l)) _ (b .1) .0) .1

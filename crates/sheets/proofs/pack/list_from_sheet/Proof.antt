@@ -7,7 +7,7 @@ use lib.ListN.{length}
 use Rattle.refusals.specs.declared.Checked.the-variants.{Passed}
 use Rattle.refusals.proofs.Rooms.{ends-refused, ends-short, ends-written}
 use Rattle.lists.specs.Lists.{listOf, place}
-use Rattle.lists.proofs.Writing.{length-records, length-list}
+use Rattle.lists.proofs.RoundTrip.{length-records, length-list}
 use Rattle.sheets.specs.Readings.{flowsIn}
 use Rattle.sheets.specs.Tests.{sheetTests}
 use Rattle.sheets.proofs.Tests.{refused-found, lines-found, sound}

@@ -12,8 +12,9 @@ use Rattle.refusals.proofs.Rooms.{ends-refused, ends-short, ends-written}
 use Rattle.fields.specs.declared.flow.Flow.{Flow}
 use Rattle.lists.specs.Lists.{flowsFrom, flowsOf}
 use Rattle.lists.specs.Tests.{tests1to4}
+use Rattle.lists.proofs.RoundTrip.{listed}
 use Rattle.sheets.specs.Texts.{text}
-use Rattle.sheets.proofs.Printing.{flows-of, count-le}
+use Rattle.sheets.proofs.Printing.{flows-of}
 use borrow.Author.Needs.{needs}
 use Rattle.sheets.proofs.print.sheet_from_list.Statement.{statement}
 use Rattle.sheets.proofs.print.sheet_from_list.Tie as tie
@@ -46,7 +47,7 @@ same : (c : tie.After-count) → let l = c .before .before .before .before .befo
 same c = flows-of _ _ (c .count .ensures .0)
 
 text-size-requires : tie.Need-text-size-requires
-text-size-requires c κs = omega (arith, c .count .ensures .0, count-le _ (passed (c .before)))
+text-size-requires c κs = omega (arith, c .count .ensures .0, listed _ (passed (c .before)) .most)
 
 size-is : (c : tie.After-text-size) → c .text-size .result ≡ length (text (flowsOf (c .before .before .before .before .before .before .before .args .list .now)))
 size-is c = c .text-size .ensures ∙ ap (λ (fs : List Flow). length (text fs)) (same (c .before))
