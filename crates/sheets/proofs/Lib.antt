@@ -7,3 +7,5 @@ pub mod Packing
 pub mod Texts
 pub mod Printing
 pub mod Forms
+pub mod Sheets
+pub mod RoundTrip

@@ -12,6 +12,7 @@ use Rattle.refusals.specs.declared.Refusal.the-variants.{Field}
 use Rattle.refusals.proofs.Chains.{both-passed}
 use Rattle.logic.specs.Lists.{All}
 use Rattle.refusals.proofs.Entries.{each-passed}
+use Rattle.fields.specs.declared.flow.Flow.{Flow}
 use Rattle.fields.specs.Flows.{keeps}
 use Rattle.lists.specs.Tests.{test3, test4}
 use Rattle.lists.proofs.Verdicts.{few-passed}
@@ -76,3 +77,7 @@ sound s e =
     let b = both-passed (test3 (length (flowsIn s))) _ (a .1) in
     let n = few-passed (length (flowsIn s)) (b .0) in
     record { formed = a .0; some = n .0; few = n .1; kept = each-passed keeps (λ f. keeps f ≡ true) (λ f. (λ t. t, λ t. t)) Field 1 (flowsIn s) .0 (b .1) }
+
+pub kept-passes : (fs : List Flow) → All (λ f. keeps f ≡ true) fs → test4 fs ≡ Passed
+unfolding test4
+kept-passes fs p = each-passed keeps (λ f. keeps f ≡ true) (λ f. (λ t. t, λ t. t)) Field 1 fs .1 p
