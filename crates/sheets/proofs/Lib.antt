@@ -9,3 +9,4 @@ pub mod Printing
 pub mod Forms
 pub mod Sheets
 pub mod RoundTrip
+pub mod Cases

@@ -2,27 +2,25 @@
 use Prim.Native.Nat.{ℕ}
 use mathlib.Core.List.{List, [], _∷_, _++_}
 use Rattle.fields.specs.declared.flow.Flow.{Flow}
+use Rattle.words.specs.Characters.{bytes}
 use Rattle.words.specs.Decimals.{decimal}
 
--- "flow "
+-- the four words, each with the spaces around it
 abbrev pub flow : List ℕ
-flow = 102 ∷ 108 ∷ 111 ∷ 119 ∷ 32 ∷ []
+flow = bytes "flow "
 
--- " size "
 abbrev pub size : List ℕ
-size = 32 ∷ 115 ∷ 105 ∷ 122 ∷ 101 ∷ 32 ∷ []
+size = bytes " size "
 
--- " every "
 abbrev pub every : List ℕ
-every = 32 ∷ 101 ∷ 118 ∷ 101 ∷ 114 ∷ 121 ∷ 32 ∷ []
+every = bytes " every "
 
--- " jitter "
 abbrev pub jitter : List ℕ
-jitter = 32 ∷ 106 ∷ 105 ∷ 116 ∷ 116 ∷ 101 ∷ 114 ∷ 32 ∷ []
+jitter = bytes " jitter "
 
 -- the line feed
 abbrev pub feed : List ℕ
-feed = 10 ∷ []
+feed = bytes "\n"
 
 -- a word and the number behind it
 unfoldable pub piece : List ℕ → ℕ → List ℕ
