@@ -27,7 +27,7 @@ returns c =
 put-digits-requires : tie.Need-put-digits-requires
 put-digits-requires c κs =
     let i = c .before in
-    within-le _ _ _ (sym (i .before .fits2 .ensures) ∙ not-false _ (i .if1 .left))
+    omega (arith, within-le _ _ _ (sym (i .before .fits2 .ensures) ∙ not-false _ (i .if1 .left)))
 
 add-result : tie.Need-add-result
 add-result c =
