@@ -1,20 +1,17 @@
--- A record written at any place of a room, and the part of a slice from a place on, for every kind of record. Assumes nothing.
+-- A record written at any place of a room, for every kind of record. Assumes nothing.
 use mathlib.Core.Path.{_≡_, sym, ap, _∙_}
 use mathlib.Core.List.{List, [], _++_, append-nil}
 use Prim.Native.Nat.{ℕ, _-_, _<_}
 use native.Mathlib.Omega.{arith}
 use lib.ListN.{length, take, drop, length-drop, take-append-drop, drop-of-length-le}
 use lib.Seq.{take-all}
+use Rattle.logic.proofs.Parts.{part-to-end}
 use Rattle.fields.specs.declared.kind.Kind.{Kind}
 use Rattle.fields.specs.declared.record.Stored.{Stored}
 use Rattle.fields.specs.declared.record.Stored.the-variants.{Short}
 use Rattle.fields.specs.Kinds.{bytes}
 use Rattle.fields.specs.Records.{stored, roomAfter}
 use Rattle.fields.proofs.Records.{ends-short}
-
--- the part from a place to the end is all that stands there
-pub part-to-end : (place : ℕ) (s : List ℕ) → take (length s - place) (drop place s) ≡ drop place s
-part-to-end place s = take-all (length s - place) (drop place s) (simp length-drop (omega arith))
 
 module _ (kind : Kind) (place : ℕ) (vs room : List ℕ) where
   -- where no whole record has room nothing is written

@@ -10,7 +10,8 @@ use Rattle.fields.specs.declared.record.Stored.{Stored}
 use Rattle.fields.specs.declared.record.Stored.the-variants.{Short}
 use Rattle.fields.specs.Records.{stored, roomAfter}
 use Rattle.fields.specs.Flows.{noFlow, flowOf, fieldsOf}
-use Rattle.fields.proofs.Places.{part-to-end, ends-beyond, ends-part}
+use Rattle.logic.proofs.Parts.{part-to-end}
+use Rattle.fields.proofs.Places.{ends-beyond, ends-part}
 use Rattle.fields.proofs.Flows.{flow-short}
 use Rattle.lists.specs.Lists.{place, count, flowAt, flowsFrom, flowsOf, recordStored, recordAfter}
 

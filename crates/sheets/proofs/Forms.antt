@@ -28,7 +28,7 @@ use Rattle.sheets.specs.Readings.{found, ended, read}
 use Rattle.sheets.proofs.Texts.{piece-is, line-is}
 use Rattle.sheets.proofs.Readings.{read-is}
 
--- ---- what is read is a line
+-- ---- what is read
 
 never : (P : Type 0) (f : Flow) → Bad ≡ Of f → P
 never P f e = let z : _≡_ {A = ℕ} 0 1 = cc in absurd (omega arith)
@@ -58,12 +58,17 @@ ended-of at l g f h e =
     (same, starts-split feed (drop at l) (both .0) ∙ ap (λ (x : List ℕ). feed ++ x) rest))
     (λ t. let i : Bad ≡ Of f = rw t at e in never _ f i)
 
--- a word and a number that stand in the text, and what follows them
-stands : (w : List ℕ) (v : ℕ) (rest s : List ℕ) (p n : ℕ) → drop p s ≡ (w ++ decimal v) ++ drop n s → drop n s ≡ rest → drop p s ≡ w ++ (decimal v ++ rest)
-stands w v rest s p n e r = e ∙ append-assoc w (decimal v) (drop n s) ∙ ap (λ (x : List ℕ). w ++ (decimal v ++ x)) r
+-- a piece that stands in the text, and what follows it
+stands : (w : List ℕ) (v : ℕ) (rest s : List ℕ) (p n : ℕ) → drop p s ≡ (w ++ decimal v) ++ drop n s → drop n s ≡ rest → drop p s ≡ piece w v ++ rest
+stands w v rest s p n e r = e ∙ ap₂ (λ (x y : List ℕ). x ++ y) (sym (piece-is w v)) r
 
-pub read-line-of : (s : List ℕ) (f : Flow) → read s ≡ Of f → LineOf f s
-read-line-of s f e =
+-- each field has at most four digits
+abbrev pub Short : Flow → Type 0
+Short f = (f .number < 10000) × (f .size < 10000) × (f .interval < 10000) × (f .jitter < 10000)
+
+-- what is read is the line of its flow
+read-is-line : (s : List ℕ) (f : Flow) → read s ≡ Of f → Short f × (s ≡ line f)
+read-is-line s f e =
     let n = found-of (numberAfter 0 flow s) _ f (sym (read-is s) ∙ e) in
     let a = after-stands 0 flow s (n .value) (n .place) (n .is) in
     let z = found-of (numberAfter (n .place) size s) _ f (n .goes) in
@@ -73,27 +78,15 @@ read-line-of s f e =
     let j = found-of (numberAfter (i .place) jitter s) _ f (i .goes) in
     let g = after-stands (i .place) jitter s (j .value) (j .place) (j .is) in
     let o = ended-of (j .place) s _ f (g .0) (j .goes) in
-    rw (← o .0)
-    (record {
-      first = decimal (n .value);
-      second = decimal (z .value);
-      third = decimal (i .value);
-      fourth = decimal (j .value);
-      says-number = decimal-numeral (n .value) (a .1);
-      says-size = decimal-numeral (z .value) (b .1);
-      says-interval = decimal-numeral (i .value) (d .1);
-      says-jitter = decimal-numeral (j .value) (g .1);
-      exactly =
-          stands flow (n .value) _ s 0 (n .place) (a .2)
+    rw (← o .0) (
+      (a .1, b .1, d .1, g .1),
+      stands flow (n .value) _ s 0 (n .place) (a .2)
           (stands size (z .value) _ s (n .place) (z .place) (b .2)
-          (stands every (i .value) _ s (z .place) (i .place) (d .2) (stands jitter (j .value) _ s (i .place) (j .place) (g .2) (o .1))));
-    })
+          (stands every (i .value) _ s (z .place) (i .place) (d .2) (stands jitter (j .value) feed s (i .place) (j .place) (g .2) (o .1))))
+          ∙ sym (line-is _),
+    )
 
--- ---- a line is the flow's own line
-
--- each field has at most four digits
-abbrev pub Short : Flow → Type 0
-Short f = (f .number < 10000) × (f .size < 10000) × (f .interval < 10000) × (f .jitter < 10000)
+-- ---- a line is the line of its flow
 
 -- the line of a flow, with nothing bracketed
 line-flat : (f : Flow)
@@ -129,6 +122,9 @@ line-line-of f h = record {
   says-jitter = decimal-numeral (f .jitter) (h .3);
   exactly = line-flat f;
 }
+
+pub read-line-of : (s : List ℕ) (f : Flow) → read s ≡ Of f → LineOf f s
+read-line-of s f e = let is = read-is-line s f e in rw (is .1) (line-line-of f (is .0))
 
 -- ---- the line of a flow is read as the flow
 

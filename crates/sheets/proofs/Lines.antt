@@ -43,7 +43,7 @@ size-end s i h = rw (drop-of-length-le s h)
 -- ---- the lines
 
 -- the first line, and those of what follows it
-pub lines-first : (s : List ℕ) → 0 < length s → lines s ≡ take (lineSize s) s ∷ lines (drop (lineSize s) s)
+lines-first : (s : List ℕ) → 0 < length s → lines s ≡ take (lineSize s) s ∷ lines (drop (lineSize s) s)
 unfolding lines lineSize before
 lines-first [] h = absurd (not-suc-le-zero h)
 lines-first (b ∷ []) h = by-test (eqb b 10) (λ e. rw (e, lines, lineSize)) (λ e. rw (e, lines, lineSize))

@@ -8,7 +8,7 @@ use borrow.Author.Tests.{eq-eqb, ne-eqb}
 use Rattle.fields.specs.declared.flow.Flow.{Flow}
 use Rattle.words.specs.Words.{starts}
 use Rattle.words.specs.Numbers.{numberAfter}
-use Rattle.words.proofs.Numbers.{part-rest}
+use Rattle.logic.proofs.Parts.{part-to-end}
 use Rattle.sheets.specs.declared.line.Line.the-variants.{Of, Bad}
 use Rattle.sheets.specs.Texts.{flow, size, every, jitter, feed}
 use Rattle.sheets.specs.Lines.{lines}
@@ -41,7 +41,7 @@ flows-is s = refl
 module _ (l : List ℕ) (at : ℕ) (f : Flow) where
   pub ended-no : starts feed (take (length l - at) (drop at l)) ≡ false → ended at l f ≡ Bad
   unfolding ended
-  ended-no e = let e′ = rw part-rest at e in rw e′
+  ended-no e = let e′ = rw part-to-end at e in rw e′
 
   pub ended-long : (length l ≡ at + 1 → ⊥) → ended at l f ≡ Bad
   unfolding ended
@@ -49,4 +49,4 @@ module _ (l : List ℕ) (at : ℕ) (f : Flow) where
 
   pub ended-yes : starts feed (take (length l - at) (drop at l)) ≡ true → length l ≡ at + 1 → ended at l f ≡ Of f
   unfolding ended
-  ended-yes e q = let e′ = rw part-rest at e in rw (e′, eq-eqb (length l) (at + 1) q)
+  ended-yes e q = let e′ = rw part-to-end at e in rw (e′, eq-eqb (length l) (at + 1) q)

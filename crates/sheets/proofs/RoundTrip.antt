@@ -19,7 +19,7 @@ use Rattle.sheets.specs.Texts.{text}
 use Rattle.sheets.specs.Readings.{flowsIn}
 use Rattle.sheets.specs.Tests.{sheetTests}
 use Rattle.sheets.specs.Answers.{listAnswer, listRoom, sheetAnswer, sheetRoom}
-use Rattle.sheets.proofs.Tests.{rule-answers, sound, kept-passes}
+use Rattle.sheets.proofs.Tests.{rule-answers, sound, kept-exactly}
 use Rattle.sheets.proofs.Sheets.{sheet-passes, passes-sheet, sheet-is-text, text-is-sheet}
 
 -- ---- on the definitions
@@ -40,7 +40,7 @@ list-sheet-list l b e =
     let s = sheet-passes (flowsOf l) (text (flowsOf l)) (text-is-sheet (flowsOf l) (k .ruled)) in
     let n = length-flows l in (
       rule-answers (text (flowsOf l)) (s .0) (rw (s .1) (few (length (flowsOf l)) (omega (arith, k .some), omega (arith, k .most))))
-          ∙ rw (s .1) (kept-passes (flowsOf l) (k .ruled)),
+          ∙ rw (s .1) (kept-exactly (flowsOf l) .1 (k .ruled)),
       ap listOf (s .1) ∙ list-back l b e,
     )
 

@@ -1,6 +1,7 @@
 -- The tests of a sheet in their order, and what looking through it finds. Assumes nothing.
 use mathlib.Core.Path.{_≡_, refl, ap}
 use mathlib.Core.Bool.{true}
+use mathlib.Core.Logic.{_↔_}
 use mathlib.Core.List.{List}
 use Prim.Native.Nat.{ℕ, _≤_}
 use native.Mathlib.Omega.{arith}
@@ -64,6 +65,11 @@ module _ (s : List ℕ) where
 
 -- ---- what is known of a sheet that passes
 
+-- test 4 passes exactly where every flow keeps its rule
+pub kept-exactly : (fs : List Flow) → (test4 fs ≡ Passed) ↔ All (λ f. keeps f ≡ true) fs
+unfolding test4
+kept-exactly fs = each-passed keeps (λ f. keeps f ≡ true) (λ f. (λ t. t, λ t. t)) Field 1 fs
+
 pub record Sound (s : List ℕ) : Type 0 where
   pub formed : test20 s ≡ Passed
   pub some : 1 ≤ length (flowsIn s)
@@ -71,13 +77,9 @@ pub record Sound (s : List ℕ) : Type 0 where
   pub kept : All (λ f. keeps f ≡ true) (flowsIn s)
 
 pub sound : (s : List ℕ) → sheetTests s ≡ Passed → Sound s
-unfolding sheetTests test4
+unfolding sheetTests
 sound s e =
     let a = both-passed (test20 s) _ e in
     let b = both-passed (test3 (length (flowsIn s))) _ (a .1) in
     let n = few-passed (length (flowsIn s)) (b .0) in
-    record { formed = a .0; some = n .0; few = n .1; kept = each-passed keeps (λ f. keeps f ≡ true) (λ f. (λ t. t, λ t. t)) Field 1 (flowsIn s) .0 (b .1) }
-
-pub kept-passes : (fs : List Flow) → All (λ f. keeps f ≡ true) fs → test4 fs ≡ Passed
-unfolding test4
-kept-passes fs p = each-passed keeps (λ f. keeps f ≡ true) (λ f. (λ t. t, λ t. t)) Field 1 fs .1 p
+    record { formed = a .0; some = n .0; few = n .1; kept = kept-exactly (flowsIn s) .0 (b .1) }

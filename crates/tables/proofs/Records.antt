@@ -9,7 +9,8 @@ use Rattle.fields.specs.declared.record.Stored.{Stored}
 use Rattle.fields.specs.declared.record.Stored.the-variants.{Short}
 use Rattle.fields.specs.Records.{valuesOf, stored, roomAfter}
 use Rattle.fields.proofs.Records.{values-short}
-use Rattle.fields.proofs.Places.{part-to-end, ends-beyond, ends-part}
+use Rattle.logic.proofs.Parts.{part-to-end}
+use Rattle.fields.proofs.Places.{ends-beyond, ends-part}
 use Rattle.tables.specs.declared.packed.Grant.{Grant}
 use Rattle.tables.specs.Tables.{place, valuesAt, fieldsOf, recordStored, recordAfter}
 

@@ -11,6 +11,7 @@ use lib.ListN.{length, getD, take, drop, drop-of-length-le, length-drop}
 use lib.Seq.{drop-cons, take-all}
 use borrow.Author.Tests.{lt-ltb, lt-leb, le-leb, ne-eqb, leb-true, ltb-true}
 use Rattle.logic.specs.Lists.{All}
+use Rattle.logic.proofs.Parts.{part-to-end}
 use Rattle.logic.proofs.Tests.{by-test, by-lt, and-both}
 use Rattle.words.specs.declared.number.Number.the-variants.{Is, Nothing}
 use Rattle.words.specs.Words.{starts}
@@ -19,7 +20,7 @@ use Rattle.words.specs.Numbers.{run, formed, numberOf, numberAt, numberA
 use Rattle.words.proofs.Words.{starts-le}
 
 -- a digit is a byte from 48 to 57
-pub digit-range : (b : ℕ) → digit b ≡ true → Digit b
+digit-range : (b : ℕ) → digit b ≡ true → Digit b
 unfolding digit
 digit-range b h =
     let both = and-both (leb 48 b) (ltb b 58) h in
@@ -84,22 +85,22 @@ value-small (a ∷ b ∷ c ∷ e ∷ []) d h = omega arith
 value-small (a ∷ b ∷ c ∷ e ∷ f ∷ s) d h = absurd (omega arith)
 
 -- more digits make no smaller number
-pub value-le : (n : ℕ) (s : List ℕ) → n ≤ value n s
+value-le : (n : ℕ) (s : List ℕ) → n ≤ value n s
 unfolding value
 value-le n [] = le-refl n
 value-le n (b ∷ s) = le-trans (omega arith) (value-le (n * 10 + (b - 48)) s)
 
 -- all that are left are digits
 module _ (s : List ℕ) (i : ℕ) (h : i < length s) (all : run (drop i s) ≡ length (drop i s)) where
-  pub all-digit : digit (getD s i 0) ≡ true
+  all-digit : digit (getD s i 0) ≡ true
   all-digit =
       by-test (digit (getD s i 0)) (λ e. e)
       (λ e. let z = run-other s i h e in absurd (omega (arith, length-drop i s)))
 
-  pub all-rest : run (drop (i + 1) s) ≡ length (drop (i + 1) s)
+  all-rest : run (drop (i + 1) s) ≡ length (drop (i + 1) s)
   all-rest = omega (arith, run-digit s i h all-digit, length-drop i s, length-drop (i + 1) s)
 
-pub value-step : (n : ℕ) (s : List ℕ) (i : ℕ) → i < length s → value n (drop i s) ≡ value (n * 10 + (getD s i 0 - 48)) (drop (i + 1) s)
+value-step : (n : ℕ) (s : List ℕ) (i : ℕ) → i < length s → value n (drop i s) ≡ value (n * 10 + (getD s i 0 - 48)) (drop (i + 1) s)
 unfolding value
 value-step n s i h = rw (add-one, drop-cons s i 0)
 
@@ -152,14 +153,10 @@ value-turn s n i h all four left inv =
 
 -- ---- a number at a place of the text
 
--- the text from a place on, as a part that ends where the text does
-pub part-rest : (s : List ℕ) (at : ℕ) → take (length s - at) (drop at s) ≡ drop at s
-part-rest s at = take-all (length s - at) (drop at s) (omega (arith, length-drop at s))
-
 -- what the calls give: k digits stand there, and they are a number or not
 module _ (s : List ℕ) (at k : ℕ) (inside : at ≤ length s) (ran : k ≡ run (take (length s - at) (drop at s))) where
   ran-rest : k ≡ run (drop at s)
-  ran-rest = rw part-rest at ran
+  ran-rest = rw part-to-end at ran
 
   pub ran-le : at + k ≤ length s
   ran-le = omega (arith, ran-rest, run-le (drop at s), length-drop at s)
@@ -196,11 +193,11 @@ module _ (s w : List ℕ) (at : ℕ) where
 
   pub after-none : starts w (take (length s - at) (drop at s)) ≡ false → Nothing ≡ numberAfter at w s
   unfolding numberAfter
-  after-none e = let e′ = rw part-rest at e in rw e′
+  after-none e = let e′ = rw part-to-end at e in rw e′
 
   pub after-found : starts w (take (length s - at) (drop at s)) ≡ true → numberAt (at + length w) s ≡ numberAfter at w s
   unfolding numberAfter
-  after-found e = let e′ = rw part-rest at e in rw e′
+  after-found e = let e′ = rw part-to-end at e in rw e′
 
   pub after-le : at ≤ length s → starts w (take (length s - at) (drop at s)) ≡ true → at + length w ≤ length s
-  after-le inside e = omega (arith, starts-le w (drop at s) (rw part-rest at e), length-drop at s)
+  after-le inside e = omega (arith, starts-le w (drop at s) (rw part-to-end at e), length-drop at s)
