@@ -1,1 +1,4 @@
 pub mod Cases
+pub mod Overhangs
+pub mod Placed
+pub mod Groups
