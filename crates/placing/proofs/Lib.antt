@@ -2,3 +2,6 @@ pub mod Cases
 pub mod Overhangs
 pub mod Placed
 pub mod Groups
+pub mod Layouts
+pub mod Nominals
+pub mod Tables
