@@ -5,3 +5,5 @@ pub mod Groups
 pub mod Layouts
 pub mod Nominals
 pub mod Tables
+pub mod Windows
+pub mod Standing
