@@ -7,3 +7,4 @@ pub mod Nominals
 pub mod Tables
 pub mod Windows
 pub mod Standing
+pub mod Passes
