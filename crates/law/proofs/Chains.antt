@@ -5,8 +5,8 @@ use Prim.Native.Nat.{ℕ, zero, suc, _+_, _≤_, _<_}
 use native.Mathlib.Omega.{arith}
 use native.Mathlib.Nat.{mul-le-mul-right}
 use lib.ListN.{length}
-use Rattle.logic.proofs.Tests.{by-lt, by-order}
 use Rattle.logic.specs.Lists.{All, sum}
+use Rattle.logic.proofs.Tests.{by-lt, by-order}
 use Rattle.fields.specs.declared.flow.Flow.{Flow}
 use Rattle.lists.specs.Facts.{cycle}
 use Rattle.tables.specs.declared.packed.Grant.{Grant}
@@ -53,7 +53,7 @@ chain-rising fs a b [] s c = tt
 chain-rising fs a b (r ∷ []) s c = tt
 chain-rising fs a b (r ∷ q ∷ rs) s c = (omega arith, chain-rising fs (r .start + slots fs r) b (q ∷ rs) (s .1) (c .1))
 
--- a record's place in the chain
+-- a grant's place in the chain
 chain-at : (fs : List Flow) (a b : ℕ) (rs : List Grant) (k : ℕ) → Chain fs a b rs → k < length rs → (a ≤ nth rs k .start) × (nth rs k .start + slots fs (nth rs k) ≤ b)
 chain-at fs a b [] k c h = absurd (omega arith)
 chain-at fs a b (r ∷ rs) zero c h = (c .0, chain-le fs (r .start + slots fs r) b rs (c .1))

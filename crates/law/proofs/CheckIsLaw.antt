@@ -74,11 +74,13 @@ module _ (fs : List Flow) (ok : Accepted fs) (tab : List Grant) where
   -- ---- what obeys passes
 
   module _ (rises : Rising tab) (law : Law 0 fs tab) (inside : Inside fs tab) where
+    -- one round of a flow whose grants keep its rule
     round : (f : Flow) → Mem f fs → (t : ℕ) × Round 0 (cycle fs) (to (f .number) tab) f t
     round f m =
         let o = all-mem (λ f. Obeys 0 (cycle fs) (to (f .number) tab) f) fs (law .obeyed) f m in
         (o .reference, obeys-round 0 (cycle fs) (to (f .number) tab) f o)
 
+    -- every grant takes a slot
     sized : All (λ r. 0 < slots fs r) tab
     sized = slots-pos fs tab (mem-all (λ f. 0 < occupies f) fs (occupies-pos fs ok)) (law .listed)
 
@@ -88,6 +90,7 @@ module _ (fs : List Flow) (ok : Accepted fs) (tab : List Grant) where
         mem-all (λ r. r .start < cycle fs) tab
         (λ r m. omega (arith, all-mem (λ r. 0 < slots fs r) tab sized r m, all-mem (λ r. r .start + slots fs r ≤ cycle fs) tab inside r m))
 
+    -- test 16, grant by grant and flow by flow
     punctual : (r : Grant) → Mem r tab → Punctual 0 fs r
     punctual r m =
         let g = known-mem fs (r .flow) (all-mem (λ r. known fs (r .flow) ≡ true) tab (law .listed) r m) in
@@ -98,8 +101,10 @@ module _ (fs : List Flow) (ok : Accepted fs) (tab : List Grant) where
     follows f m =
         let o = round f m in
         let gs = to (f .number) tab in
-        let t : o .0 < f .interval =
-        omega (arith, round-early 0 (cycle fs) gs f (o .0) (o .1) (all-imp (λ r. (r .start < cycle fs) × (r .flow ≡ f .number)) (λ r. r .start < cycle fs) gs (λ r a. a .0) (to-all (λ r. r .start < cycle fs) (f .number) tab early))) in
+        let own =
+        all-imp (λ r. (r .start < cycle fs) × (r .flow ≡ f .number)) (λ r. r .start < cycle fs) gs (λ r a. a .0)
+        (to-all (λ r. r .start < cycle fs) (f .number) tab early) in
+        let t : o .0 < f .interval = omega (arith, round-early 0 (cycle fs) gs f (o .0) (o .1) own) in
         rw (o .1 .times) (progression-first (f .interval) (o .0) (length gs) t)
 
     law-reads : Reads fs tab

@@ -1,4 +1,4 @@
--- Double counting: what the grants weigh flow by flow is what they weigh record by record. Assumes nothing.
+-- Double counting: what the grants weigh flow by flow is what they weigh grant by grant. Assumes nothing.
 use mathlib.Core.Path.{_≡_, sym, _∙_}
 use mathlib.Core.Bool.{true, false}
 use mathlib.Core.List.{List, [], _∷_}
@@ -7,8 +7,8 @@ use native.Mathlib.Omega.{arith}
 use lib.Dec.{eqb}
 use lib.ListN.{length}
 use borrow.Author.Tests.{eqb-true, eqb-false, eq-eqb, ne-eqb}
-use Rattle.logic.proofs.Tests.{by-test}
 use Rattle.logic.specs.Lists.{All, sum}
+use Rattle.logic.proofs.Tests.{by-test, true-not-false}
 use Rattle.logic.proofs.Members.{all-imp, all-each}
 use Rattle.logic.proofs.Sums.{sum-same, sum-add, sum-zero}
 use Rattle.fields.specs.declared.flow.Flow.{Flow}
@@ -28,6 +28,7 @@ pub mark-other : (x y : ℕ) → (x ≡ y → ⊥) → mark x y ≡ 0
 unfolding mark
 mark-other x y e = rw (ne-eqb x y e, mark)
 
+-- one more grant
 to-length : (x : ℕ) (r : Grant) (rs : List Grant) → length (to x (r ∷ rs)) ≡ mark (r .flow) x + length (to x rs)
 unfolding to mark
 to-length x r rs = by-test (eqb (r .flow) x) (λ e. rw (e, to, mark) (omega arith)) (λ e. rw (e, to, mark) (omega arith))
@@ -36,7 +37,7 @@ module _ (v : Flow → ℕ) where
   -- a known number is that of one flow
   pub look-sum : (fs : List Flow) → Distinct fs → (x : ℕ) → known fs x ≡ true → sum (λ f. v f * mark x (f .number)) fs ≡ v (look fs x)
   unfolding sum known look
-  look-sum [] d x k = let z : _≡_ {A = ℕ} 0 1 = cc in absurd (omega arith)
+  look-sum [] d x k = true-not-false (sym k)
   look-sum (f ∷ fs) d x k =
       by-test (eqb (f .number) x)
       (λ e.
@@ -50,6 +51,7 @@ module _ (v : Flow → ℕ) where
       let other : mark x (f .number) ≡ 0 = mark-other x (f .number) (λ q. eqb-false (f .number) x e (sym q)) in
       rw (e, look) (rw other (omega (arith, look-sum fs (d .1) x (rw (e, known) at k)))))
 
+  -- the grants of a table whose flows are listed
   pub counting : (fs : List Flow) → Distinct fs → (rs : List Grant) → All (λ r. known fs (r .flow) ≡ true) rs
       → sum (λ f. v f * length (to (f .number) rs)) fs ≡ sum (λ r. v (look fs (r .flow))) rs
   unfolding sum to

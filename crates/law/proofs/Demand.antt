@@ -30,6 +30,7 @@ pub record Parts (l t : List ℕ) : Type 0 where
   pub rules : tests14to18 (flowsOf l) (grantsOf t) ≡ Passed
 
 module _ (l t : List ℕ) where
+  -- the check passes exactly where each part does
   pub check-parts : (check l t ≡ Passed) ↔ Parts l t
   unfolding check lawTests
   check-parts = (

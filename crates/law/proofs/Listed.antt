@@ -3,11 +3,10 @@ use mathlib.Core.Path.{_≡_, refl, sym, ap, _∙_}
 use mathlib.Core.Bool.{true, false}
 use mathlib.Core.List.{List, [], _∷_, List·Memᴰ·head, List·Memᴰ·tail, List·Memᴰ·not-nil}
 use Prim.Native.Nat.{ℕ, _<_}
-use native.Mathlib.Omega.{arith}
 use lib.Dec.{eqb}
 use borrow.Author.Tests.{eqb-true, eq-eqb, ne-eqb}
-use Rattle.logic.proofs.Tests.{by-test, true-not-false}
 use Rattle.logic.specs.Lists.{All}
+use Rattle.logic.proofs.Tests.{by-test, true-not-false}
 use Rattle.logic.proofs.Members.{Mem, by-mem, all-mem, all-imp}
 use Rattle.fields.specs.declared.flow.Flow.{Flow}
 use Rattle.lists.specs.Facts.{occupies}
@@ -18,7 +17,7 @@ use Rattle.law.specs.Check.{known, look, slots}
 -- the flow of a known number stands in the list and has that number
 pub known-mem : (fs : List Flow) (x : ℕ) → known fs x ≡ true → Mem (look fs x) fs × (look fs x .number ≡ x)
 unfolding known look
-known-mem [] x h = let z : _≡_ {A = ℕ} 0 1 = cc in absurd (omega arith)
+known-mem [] x h = true-not-false (sym h)
 known-mem (f ∷ fs) x h =
     by-test (eqb (f .number) x)
     (λ e. rw (e, look) (List·Memᴰ·head refl, eqb-true (f .number) x e))

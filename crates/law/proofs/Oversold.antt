@@ -16,10 +16,11 @@ use Rattle.lists.proofs.Accepted.{accepted}
 use Rattle.tables.specs.declared.packed.Grant.{Grant}
 use Rattle.tables.specs.Tables.{grantsOf as grantsIn}
 use Rattle.law.specs.Check.{slots, to, tests14to18, check}
+use Rattle.law.specs.Lawful.{Lawful}
 use Rattle.law.proofs.Counting.{counting}
 use Rattle.law.proofs.Chains.{inside-chain, chain-sum}
 use Rattle.law.proofs.Reading.{Reads, passes-reads}
-use Rattle.law.proofs.Demand.{check-parts}
+use Rattle.law.proofs.Demand.{check-parts, check-is-lawful}
 
 module _ (fs : List Flow) (d : Distinct fs) (tab : List Grant) (pass : tests14to18 fs tab ≡ Passed) where
   reads : Reads fs tab
@@ -59,3 +60,7 @@ pub oversold : (l t : List ℕ) → cycle (flowsOf l) < load (flowsOf l) → che
 oversold l t h e =
     let p = check-parts l t .0 e in
     omega (arith, passes-load (flowsOf l) (accepted l (p .list) .distinct) (grantsIn t) (p .rules))
+
+-- so no table of an oversold list is lawful
+pub oversold-lawless : (l t : List ℕ) → cycle (flowsOf l) < load (flowsOf l) → Lawful l t → ⊥
+oversold-lawless l t h w = oversold l t h (check-is-lawful l t .1 w)

@@ -1,4 +1,4 @@
--- Test 16, record by record, is one progression for each flow. Assumes nothing.
+-- Test 16, grant by grant, is one progression for each flow. Assumes nothing.
 use mathlib.Core.Path.{_≡_, refl, sym, ap, _∙_}
 use mathlib.Core.Bool.{true}
 use mathlib.Core.List.{List, [], _∷_, map}
@@ -8,8 +8,8 @@ use native.Mathlib.Omega.{arith}
 use lib.Dec.{leb, eqb}
 use lib.ListN.{length}
 use borrow.Author.Tests.{ltb-true, lt-ltb, leb-true, le-leb, eqb-true, eq-eqb}
-use Rattle.logic.proofs.Tests.{by-test}
 use Rattle.logic.specs.Lists.{All}
+use Rattle.logic.proofs.Tests.{by-test, true-not-false}
 use Rattle.logic.proofs.Members.{Mem}
 use Rattle.logic.proofs.Progressions.{progression}
 use Rattle.fields.specs.declared.flow.Flow.{Flow}
@@ -55,7 +55,7 @@ progression-first i t (suc n) h = (lt-ltb t i h, progression-follows i t n)
 abbrev pub Punctual : ℕ → List Flow → Grant → Type 0
 Punctual z fs r = (r .late ≤ look fs (r .flow) .jitter) × (r .late ≤ z + r .start)
 
--- each record is punctual, and each flow's times go on from those seen
+-- each grant is punctual, and each flow's times go on from those seen
 pub record Times (z : ℕ) (fs : List Flow) (seen rs : List Grant) : Type 0 where
   pub punctual : All (Punctual z fs) rs
   pub follows : (f : Flow) → Mem f fs → Follows (f .interval) (last z (f .number) seen) (times z (f .number) rs)
@@ -69,8 +69,8 @@ timely-inv z fs seen r h =
     let k = rw (e, timely) at h in
     by-test (leb (r .late) (z + r .start))
     (λ q. ((leb-true (r .late) (look fs (r .flow) .jitter) e, leb-true (r .late) (z + r .start) q), rw q at k))
-    (λ q. let k2 = rw q at k in let y : _≡_ {A = ℕ} 0 1 = cc in absurd (omega arith)))
-    (λ e. let k = rw (e, timely) at h in let y : _≡_ {A = ℕ} 0 1 = cc in absurd (omega arith))
+    (λ q. true-not-false (sym (rw q at k))))
+    (λ e. true-not-false (sym (rw (e, timely) at h)))
 
 timely-is : (z : ℕ) (fs : List Flow) (seen : List Grant) (r : Grant) → Punctual z fs r
     → steps (look fs (r .flow) .interval) (last z (r .flow) seen) (nominal z r) ≡ true → timely z fs seen r ≡ true
