@@ -76,7 +76,7 @@ pub record Grouped (P : Flow → Type 0) (φ i : ℕ) (fs : List Flow) (xs ys : 
   pub based : Each (Based P) φ 0 xs → Each (Based P) φ 0 ys
   pub same : olds ys ≡ olds xs
   pub added : (v : Flow → ℕ) → newly v ys ≡ newly v xs + sum (λ f. mark (f .interval) i * v f) fs
-  pub news : All P fs → Newly P xs → Newly P ys
+  pub news : All (λ f. f .interval ≡ i → P f) fs → Newly P xs → Newly P ys
 
 pub group-leaves : (P : Flow → Type 0) (φ i p : ℕ) (fs : List Flow) (xs ys : List Frame) → group φ i p xs fs ≡ done ys → Grouped P φ i fs xs ys
 unfolding sum
@@ -90,7 +90,7 @@ group-leaves P φ i =
       based = λ a. ih .based (t .based a);
       same = ih .same ∙ t .same;
       added = λ v. omega (arith, ih .added v, t .added v, ap (λ (m : ℕ). m * v f) (mark-same (f .interval) i e));
-      news = λ p a. ih .news (p .1) (t .news (p .0) a);
+      news = λ p a. ih .news (p .1) (t .news (p .0 e) a);
     })
     (λ f fs xs ys e ih.
     record {

@@ -8,3 +8,4 @@ pub mod Tables
 pub mod Windows
 pub mod Standing
 pub mod Passes
+pub mod Room

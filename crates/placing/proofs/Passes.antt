@@ -19,7 +19,7 @@ use Rattle.tables.specs.Form.{test12}
 use Rattle.law.specs.Check.{known, look, slots, nominal, to, last, tests14to18}
 use Rattle.law.proofs.Listed.{known-mem, slots-pos}
 use Rattle.law.proofs.Chains.{Chain, chain-clear, chain-inside, chain-rising}
-use Rattle.law.proofs.Times.{Punctual, times, progression-first, times-every}
+use Rattle.law.proofs.Times.{Punctual, times, progression-first, times-pass}
 use Rattle.law.proofs.Reading.{Reads, reads12, passes-reads}
 use Rattle.law.proofs.Oversold.{passes-length}
 use Rattle.placing.specs.Rule.{Outcome, done, refused, Settled, opened, intervals, layout, rows, planned}
@@ -99,7 +99,7 @@ module _ (fs : List Flow) (ok : Accepted fs) (gs : List Grant) (plan : planned f
             let p = planned-steps f m in
             sym (length-map (to (f .number) gs) (nominal 0)) ∙ ap length (p .2) ∙ progression-length (p .0) (f .interval) (grantsOf (cycle fs) f));
         timely =
-            times-every 0 fs (ok .distinct) [] gs listed
+            times-pass 0 fs (ok .distinct) [] gs listed
             (record {
               punctual = all-imp (Timed fs (ok .distinct)) (Punctual 0 fs) gs (λ r p. p .1) timed;
               follows = λ f m. let p = planned-steps f m in rw (p .2) (progression-first (f .interval) (p .0) (grantsOf (cycle fs) f) (p .1));
@@ -118,3 +118,19 @@ module _ (fs : List Flow) (ok : Accepted fs) (gs : List Grant) (plan : planned f
   -- there are as many of them as the list has grants
   pub planned-length : length gs ≡ grants fs
   planned-length = passes-length fs (ok .distinct) gs (planned-passes .1)
+
+  -- each is a listed flow's, and fits its record
+  pub planned-fits : All (λ r. (known fs (r .flow) ≡ true) × (r .flow < 1024) × (r .start < cycle fs) × (r .late < 4096)) gs
+  planned-fits =
+      all-both (Timed fs (ok .distinct)) (λ r. (0 < slots fs r) × (r .start + slots fs r ≤ cycle fs))
+      (λ r. (known fs (r .flow) ≡ true) × (r .flow < 1024) × (r .start < cycle fs) × (r .late < 4096)) gs
+      (λ r p q.
+      let m = known-mem fs (r .flow) (p .0) in
+      let k = kept fs ok (look fs (r .flow)) (m .0) in
+      (p .0, omega (arith, m .1, k .number-le), omega arith, omega (arith, k .tolerable, k .interval-le)))
+      timed
+      (all-both (λ r. 0 < slots fs r) (λ r. r .start + slots fs r ≤ cycle fs) (λ r. (0 < slots fs r) × (r .start + slots fs r ≤ cycle fs)) gs (λ r p q. (p, q)) slotted (reads .inside))
+
+-- the cycle has its place in a table's head
+pub cycle-fits : (fs : List Flow) → Accepted fs → cycle fs ≤ 4096
+cycle-fits fs ok = let c = cycle-in fs ok in omega (arith, c .2, kept fs ok (c .0) (c .1) .interval-le)

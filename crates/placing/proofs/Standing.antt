@@ -118,7 +118,7 @@ module _ (fs : List Flow) (ok : Accepted fs) where
     lawful = left .lawful (rep-passing φ hs (a .clear) k) (rep-each φ hs (a .clear) (Spare 0) k (a .spare))
 
     news : Newly (λ f. Mem f fs) xs
-    news = left .news (mem-all (λ f. Mem f fs) fs (λ f m. m)) (opened-news (λ f. Mem f fs) copies)
+    news = left .news (mem-all (λ f. f .interval ≡ i → Mem f fs) fs (λ f m q. m)) (opened-news (λ f. Mem f fs) copies)
 
     wide : length ended * φ ≡ i
     unfolding olds
