@@ -3,7 +3,7 @@ use mathlib.Core.Path.{_≡_, refl, ap, _∙_}
 use mathlib.Core.List.{List, [], _∷_, _++_, map}
 use Prim.Native.Nat.{ℕ, zero, suc, _+_, _-_, _*_, _≤_}
 use native.Mathlib.Omega.{arith}
-use lib.ListN.{length, length-append}
+use lib.ListN.{length, length-append, length-map}
 use Rattle.logic.specs.Lists.{All, sum}
 use Rattle.logic.proofs.Appends.{all-append, sum-append}
 use Rattle.fields.specs.declared.flow.Flow.{Flow}
@@ -30,6 +30,10 @@ unfolding opened olds
 opened-olds [] = refl
 opened-olds (h ∷ hs) = ap (λ (l : List (List Settled)). h ∷ l) (opened-olds hs)
 
+pub opened-length : (hs : List (List Settled)) → length (opened hs) ≡ length hs
+unfolding opened
+opened-length hs = length-map hs unfilled
+
 pub opened-newly : (v : Flow → ℕ) (hs : List (List Settled)) → newly v (opened hs) ≡ 0
 unfolding opened newly sum
 opened-newly v [] = refl
@@ -40,6 +44,10 @@ unfolding opened
 opened-news P [] = tt
 opened-news P (h ∷ hs) = (tt, opened-news P hs)
 
+-- the weights of a layout's grants
+unfoldable pub granted : (Flow → ℕ) → List (List Settled) → ℕ
+granted v hs = sum (λ h. sum (λ (g : Settled). v (g .flow)) h) hs
+
 -- ---- a layout m times over
 
 pub rep-length : (m : ℕ) (hs : List (List Settled)) → length (rep m hs) ≡ m * length hs
@@ -47,10 +55,10 @@ unfolding rep
 rep-length zero hs = omega arith
 rep-length (suc m) hs = omega (arith, length-append hs (rep m hs), rep-length m hs)
 
-pub rep-sum : (v : List Settled → ℕ) (m : ℕ) (hs : List (List Settled)) → sum v (rep m hs) ≡ m * sum v hs
-unfolding rep sum
-rep-sum v zero hs = omega arith
-rep-sum v (suc m) hs = omega (arith, sum-append v hs (rep m hs), rep-sum v m hs)
+pub rep-granted : (v : Flow → ℕ) (m : ℕ) (hs : List (List Settled)) → granted v (rep m hs) ≡ m * granted v hs
+unfolding rep granted sum
+rep-granted v zero hs = omega arith
+rep-granted v (suc m) hs = omega (arith, sum-append (λ h. sum (λ (g : Settled). v (g .flow)) h) hs (rep m hs), rep-granted v m hs)
 
 -- where nothing passes the end of a layout, nothing passes the end of its copies, and each copy is as the first
 module _ (φ : ℕ) (hs : List (List Settled)) (clear : passing φ 0 (opened hs) ≡ 0) where
@@ -69,10 +77,6 @@ module _ (φ : ℕ) (hs : List (List Settled)) (clear : passing φ 0 (opened hs)
 -- a grant of the group that ends
 abbrev pub settled : ℕ → Flow → Settled
 settled o f = record { flow = f; base = o }
-
--- the weights of a layout's grants
-unfoldable pub granted : (Flow → ℕ) → List (List Settled) → ℕ
-granted v hs = sum (λ h. sum (λ (g : Settled). v (g .flow)) h) hs
 
 settled-sum : (v : Flow → ℕ) (o : ℕ) (fs : List Flow) → sum (λ (g : Settled). v (g .flow)) (map (settled o) fs) ≡ sum v fs
 unfolding sum

@@ -30,7 +30,7 @@ use Rattle.placing.proofs.Standing.{Steps, Stands, stands}
 
 -- ---- the grants come from a layout, and so does the refused place
 
-planned-done : (fs : List Flow) (hs : List (List Settled)) → layout fs ≡ done hs → planned fs ≡ done (rows (frame fs) 0 0 hs)
+pub planned-done : (fs : List Flow) (hs : List (List Settled)) → layout fs ≡ done hs → planned fs ≡ done (rows (frame fs) 0 0 hs)
 unfolding planned
 planned-done fs hs e = rw (e, planned)
 

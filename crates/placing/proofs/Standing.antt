@@ -24,7 +24,8 @@ use Rattle.placing.specs.Rule.{done, Settled, Frame, content, weight, ol
 use Rattle.placing.proofs.Overhangs.{passing, Each, Spare, Based}
 use Rattle.placing.proofs.Placed.{newly, Newly}
 use Rattle.placing.proofs.Groups.{Grouped, group-leaves}
-use Rattle.placing.proofs.Layouts.{opened-olds, opened-newly, opened-news, rep-length, rep-sum, rep-passing, rep-each, granted, settle-length, settle-passing, settle-each, settle-granted}
+use Rattle.placing.proofs.Layouts.{opened-olds, opened-newly, opened-news, rep-length, rep-passing, rep-each, granted, settle-length, settle-passing, settle-each, settle-granted}
+use Rattle.placing.proofs.Ended.{ended-olds, ended-wide, ended-granted}
 use Rattle.placing.proofs.Nominals.{nominals, numbered, nominals-length, nominals-rep, nominals-settle}
 use Rattle.placing.proofs.Tables.{Timed, rows-times, rows-timed, rows-chain}
 use Rattle.placing.proofs.Windows.{layout-keep}
@@ -112,7 +113,7 @@ module _ (fs : List Flow) (ok : Accepted fs) where
     left = group-leaves (λ f. Mem f fs) φ i 1 fs (opened copies) xs e
 
     old : olds xs ≡ copies
-    old = left .same ∙ opened-olds copies
+    old = ended-olds (λ f. Mem f fs) φ i k fs hs xs left
 
     lawful : (passing φ 0 xs ≡ 0) × Each (Spare 0) φ 0 xs
     lawful = left .lawful (rep-passing φ hs (a .clear) k) (rep-each φ hs (a .clear) (Spare 0) k (a .spare))
@@ -121,10 +122,7 @@ module _ (fs : List Flow) (ok : Accepted fs) where
     news = left .news (mem-all (λ f. f .interval ≡ i → Mem f fs) fs (λ f m q. m)) (opened-news (λ f. Mem f fs) copies)
 
     wide : length ended * φ ≡ i
-    unfolding olds
-    wide =
-        let n : length ended ≡ k * length hs = settle-length φ 0 xs ∙ sym (length-map xs (λ (x : Frame). x .old)) ∙ ap length old ∙ rep-length k hs in
-        omega (arith, ap (λ (x : ℕ). x * φ) n, ap (λ (x : ℕ). k * x) (a .wide), whole)
+    wide = ended-wide (λ f. Mem f fs) φ i k fs hs xs left s (a .wide) whole
 
     clear : passing φ 0 (opened ended) ≡ 0
     clear = settle-passing φ 0 xs ∙ lawful .0
@@ -137,22 +135,17 @@ module _ (fs : List Flow) (ok : Accepted fs) where
         settle-each (λ o g. (g .base ≤ o) × Mem (g .flow) fs) (λ f. Mem f fs) (λ o f m. (omega arith, m)) φ 0 xs news
         (left .based (rep-each φ hs (a .clear) (Based (λ f. Mem f fs)) k (a .based)))
 
-    -- a flow is new to the layout exactly if it is of this group
+    -- the group has a flow exactly if the flow has its interval
+    share : (f : Flow) → Mem f fs → sum (λ g. mark (g .interval) i * numbered (f .number) g) fs ≡ mark (f .interval) i
+    share f m =
+        look-sum (λ g. mark (g .interval) i) fs (ok .distinct) (f .number) (mem-known fs f m)
+        ∙ ap (λ (x : Flow). mark (x .interval) i) (look-mem fs (ok .distinct) f m)
+
     new : (f : Flow) → Mem f fs → newly (numbered (f .number)) xs ≡ mark (f .interval) i
-    new f m =
-        left .added (numbered (f .number))
-        ∙ omega (
-          arith,
-          opened-newly (numbered (f .number)) copies,
-          look-sum (λ g. mark (g .interval) i) fs (ok .distinct) (f .number) (mem-known fs f m),
-          ap (λ (x : Flow). mark (x .interval) i) (look-mem fs (ok .distinct) f m),
-        )
+    new f m = left .added (numbered (f .number)) ∙ omega (arith, opened-newly (numbered (f .number)) copies, share f m)
 
     many : (f : Flow) → Mem f fs → granted (numbered (f .number)) ended ≡ k * granted (numbered (f .number)) hs + mark (f .interval) i
-    unfolding granted
-    many f m =
-        settle-granted (numbered (f .number)) φ 0 xs
-        ∙ omega (arith, ap (granted (numbered (f .number))) old, rep-sum (λ h. sum (λ (g : Settled). numbered (f .number) (g .flow)) h) k hs, new f m)
+    many f m = ended-granted (λ f. Mem f fs) φ i k fs hs xs left (numbered (f .number)) ∙ omega (arith, share f m)
 
     -- every record of the group's window starts inside it
     inside : All (λ r. r .start < i) (rows φ 0 0 ended)
