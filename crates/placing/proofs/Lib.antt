@@ -11,3 +11,4 @@ pub mod Standing
 pub mod Passes
 pub mod Room
 pub mod Always
+pub mod First

@@ -5,7 +5,7 @@ use mathlib.Core.List.{List, [], _∷_, _++_}
 use Prim.Native.Nat.{ℕ, zero, suc, _+_, _-_, _≤_, _<_}
 use native.Mathlib.Omega.{arith}
 use lib.Dec.{ltb}
-use borrow.Author.Tests.{ltb-true}
+use borrow.Author.Tests.{ltb-true, lt-ltb}
 use Rattle.logic.specs.Lists.{All, sum}
 use Rattle.logic.proofs.Tests.{by-test, true-not-false}
 use Rattle.logic.proofs.Members.{all-imp}
@@ -25,13 +25,18 @@ unfolding content sum
 content-with f x = omega (arith, sum-append occupies (x .new) (f ∷ []))
 
 -- what a frame that takes a flow has
-takes-here : (φ : ℕ) (f : Flow) (o : ℕ) (x : Frame) (xs : List Frame) → takes φ (occupies f) o (contents (x ∷ xs)) (olds (x ∷ xs)) ≡ true
+pub takes-here : (φ : ℕ) (f : Flow) (o : ℕ) (x : Frame) (xs : List Frame) → takes φ (occupies f) o (contents (x ∷ xs)) (olds (x ∷ xs)) ≡ true
     → (o + content x < φ) × (lawful φ o (contents (with-flow f x ∷ xs)) (olds (with-flow f x ∷ xs)) ≡ true)
 unfolding takes contents olds
 takes-here φ f o x xs e =
     by-test (ltb (o + content x) φ)
     (λ t. (ltb-true (o + content x) φ t, rw (content-with f x) (rw (t, takes) at e)))
     (λ t. let k : false ≡ true = rw (t, takes) at e in true-not-false (cc))
+
+pub here-takes : (φ : ℕ) (f : Flow) (o : ℕ) (x : Frame) (xs : List Frame) → o + content x < φ
+    → lawful φ o (contents (with-flow f x ∷ xs)) (olds (with-flow f x ∷ xs)) ≡ true → takes φ (occupies f) o (contents (x ∷ xs)) (olds (x ∷ xs)) ≡ true
+unfolding takes contents olds
+here-takes φ f o x xs l w = rw (lt-ltb (o + content x) φ l, takes) (rw (content-with f x) at w)
 
 -- induction over the search: what holds where the flow is put, and of a frame that is passed by
 module _ (φ : ℕ) (f : Flow) (R : ℕ → List Frame → List Frame → Type 0)

@@ -16,7 +16,7 @@ use Rattle.lists.specs.Facts.{occupies}
 use Rattle.placing.specs.declared.Found.the-variants.{At, Nowhere}
 use Rattle.placing.specs.Rule.{Outcome, done, Settled, Frame, content, past, lawful, takes, firstLawful, contents, olds, put, group}
 use Rattle.placing.proofs.Overhangs.{passing, Each, Spare, each-along, each-lawful}
-use Rattle.placing.proofs.Placed.{with-flow, content-with}
+use Rattle.placing.proofs.Placed.{with-flow, content-with, here-takes}
 
 -- a group under way: full frames, then the first with a free slot, then frames as the group found them; d is what a flow of this
 -- group can push, e what later groups can
@@ -72,10 +72,8 @@ search-full φ s k o x xs l = rw (le-ltb (o + content x) φ l, takes, firstLawfu
 
 search-here : (φ k o : ℕ) (f : Flow) (x : Frame) (xs : List Frame) → o + content x < φ → lawful φ o (contents (with-flow f x ∷ xs)) (olds (with-flow f x ∷ xs)) ≡ true
     → firstLawful φ (occupies f) k o (contents (x ∷ xs)) (olds (x ∷ xs)) ≡ At k
-unfolding firstLawful takes contents olds
-search-here φ k o f x xs l w =
-    let t : takes φ (occupies f) o (contents (x ∷ xs)) (olds (x ∷ xs)) ≡ true = rw (lt-ltb (o + content x) φ l, takes) (rw (content-with f x) at w) in
-    rw (t, firstLawful)
+unfolding firstLawful contents olds
+search-here φ k o f x xs l w = rw (here-takes φ f o x xs l w, firstLawful)
 
 -- the flow f goes into frame j, and the group is under way as before
 pub record Step (φ d e o k : ℕ) (f : Flow) (xs : List Frame) (j : ℕ) : Type 0 where
