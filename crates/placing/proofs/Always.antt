@@ -19,7 +19,7 @@ use Rattle.lists.proofs.Cycle.{occupies-pos, interval-pos, interval-divides, fr
 use Rattle.tables.specs.declared.packed.Grant.{Grant}
 use Rattle.law.proofs.Counting.{mark, mark-same, mark-other}
 use Rattle.placing.specs.declared.Found.the-variants.{At}
-use Rattle.placing.specs.Rule.{done, Settled, Frame, weight, content, olds, put, group, rep, opened, settle, groups, present, rising, intervals, layout, rows, planned}
+use Rattle.placing.specs.Rule.{done, Settled, Frame, weight, content, firstLawful, contents, olds, put, group, rep, opened, settle, groups, present, rising, intervals, layout, rows, planned}
 use Rattle.placing.specs.Tolerance.{largest, above, need, Tolerant}
 use Rattle.placing.proofs.Overhangs.{passing, Each, Spare}
 use Rattle.placing.proofs.Placed.{newly, Newly, Put, put-leaves}
@@ -38,10 +38,16 @@ unfolding sum content weight olds granted newly
 contents-split [] = refl
 contents-split (x ∷ xs) = omega (arith, contents-split xs)
 
--- all flows of interval i that push at most d have their places, if there is room for all
-pub filled : (φ d e i p : ℕ) (fs : List Flow) (xs : List Frame) → All (λ f. f .interval ≡ i → (0 < occupies f) × (occupies f ≤ d + 1)) fs
-    → Going φ d e 0 xs → passing φ 0 xs ≡ 0 → sum content xs + sum (λ f. mark (f .interval) i * occupies f) fs ≤ length xs * φ
-    → (ys : List Frame) × (group φ i p xs fs ≡ done ys) × Going φ d e 0 ys × (passing φ 0 ys ≡ 0)
+-- the flows of interval i have their places in the frames xs, and the group is under way to the end
+abbrev Filled : ℕ → ℕ → ℕ → ℕ → ℕ → List Flow → List Frame → Type 0
+Filled φ d e i p fs xs = (ys : List Frame) × (group φ i p xs fs ≡ done ys) × Going φ d e 0 ys × (passing φ 0 ys ≡ 0)
+
+filled-after : (φ d e i p r : ℕ) (fs gs : List Flow) (xs ys : List Frame) → group φ i p xs fs ≡ group φ i r ys gs → Filled φ d e i r gs ys → Filled φ d e i p fs xs
+filled-after φ d e i p r fs gs xs ys q y = (y .0, q ∙ y .1, y .2, y .3)
+
+-- they have, if each pushes at most d and there is room for all
+filled : (φ d e i p : ℕ) (fs : List Flow) (xs : List Frame) → All (λ f. f .interval ≡ i → (0 < occupies f) × (occupies f ≤ d + 1)) fs
+    → Going φ d e 0 xs → passing φ 0 xs ≡ 0 → sum content xs + sum (λ f. mark (f .interval) i * occupies f) fs ≤ length xs * φ → Filled φ d e i p fs xs
 unfolding sum group
 filled φ d e i p [] xs a g z r = (xs, refl, g, z)
 filled φ d e i p (f ∷ fs) xs a g z r =
@@ -50,17 +56,15 @@ filled φ d e i p (f ∷ fs) xs a g z r =
     let m : mark (f .interval) i * occupies f ≡ occupies f = rw (mark-same (f .interval) i q) (omega arith) in
     let s = step φ d e 0 0 f xs (a .0 q .0) (a .0 q .1) g z (omega arith) in
     let n : 0 + s .0 ≡ s .0 = omega arith in
-    let w = s .1 .found ∙ ap At n in
+    let w : firstLawful φ (occupies f) 0 0 (contents xs) (olds xs) ≡ At (s .0) = rw n at (s .1 .found) in
     let t = put-leaves (λ f. Unit) φ f (s .0) xs w in
     let l : length (put f (s .0) xs) ≡ length xs = olds-length xs (put f (s .0) xs) (t .same) in
-    let y =
-    filled φ d e i (suc p) fs (put f (s .0) xs) (a .1) (s .1 .going) (s .1 .clear)
-    (rw l (omega (arith, contents-split xs, contents-split (put f (s .0) xs), ap (granted occupies) (t .same), t .added occupies))) in
-    (y .0, group-at φ i p (s .0) xs f fs q w ∙ y .1, y .2, y .3))
+    filled-after φ d e i p (suc p) (f ∷ fs) fs xs (put f (s .0) xs) (group-at φ i p (s .0) xs f fs q w)
+    (filled φ d e i (suc p) fs (put f (s .0) xs) (a .1) (s .1 .going) (s .1 .clear)
+    (rw l (omega (arith, contents-split xs, contents-split (put f (s .0) xs), ap (granted occupies) (t .same), t .added occupies)))))
     (λ q.
     let m : mark (f .interval) i * occupies f ≡ 0 = rw (mark-other (f .interval) i q) (omega arith) in
-    let y = filled φ d e i (suc p) fs xs (a .1) g z (omega arith) in
-    (y .0, group-other φ i p xs f fs q ∙ y .1, y .2, y .3))
+    filled-after φ d e i p (suc p) (f ∷ fs) fs xs xs (group-other φ i p xs f fs q) (filled φ d e i (suc p) fs xs (a .1) g z (omega arith)))
 
 -- ---- the premise
 
