@@ -2,11 +2,11 @@
 use mathlib.Core.Path.{_≡_, refl, sym, ap, _∙_}
 use mathlib.Core.Bool.{true, false}
 use mathlib.Core.List.{List, [], _∷_, List·Memᴰ·not-nil}
-use Prim.Native.Nat.{ℕ, zero, suc, _+_, _-_, _*_, _/_, _≤_, _<_, max}
+use Prim.Native.Nat.{ℕ, zero, suc, _+_, _-_, _*_, _/_, _≤_, _<_}
 use native.Mathlib.Omega.{arith}
 use native.Mathlib.Nat.{div-eq-of-eq-mul-left, le-of-mul-le-mul-left}
 use lib.Dec.{ltb, eqb}
-use lib.ListN.{length, length-map}
+use lib.ListN.{length}
 use borrow.Author.Tests.{lt-ltb, le-ltb, eq-eqb}
 use Rattle.logic.specs.Lists.{All, sum}
 use Rattle.logic.proofs.Tests.{by-test, by-eq, by-order}
@@ -22,12 +22,12 @@ use Rattle.placing.specs.declared.Found.the-variants.{At}
 use Rattle.placing.specs.Rule.{done, Settled, Frame, weight, content, firstLawful, contents, olds, put, group, rep, opened, settle, groups, present, rising, intervals, layout, rows, planned}
 use Rattle.placing.specs.Tolerance.{largest, above, need, Tolerant}
 use Rattle.placing.proofs.Overhangs.{passing, Each, Spare}
-use Rattle.placing.proofs.Placed.{newly, Newly, Put, put-leaves}
-use Rattle.placing.proofs.Groups.{group-at, group-other, Grouped, group-leaves}
-use Rattle.placing.proofs.Layouts.{opened-olds, opened-length, opened-newly, opened-news, rep-length, rep-granted, rep-passing, rep-each, granted, settle-length, settle-passing, settle-each, settle-granted}
+use Rattle.placing.proofs.Placed.{newly, Newly, put-leaves}
+use Rattle.placing.proofs.Groups.{group-at, group-other, group-leaves}
+use Rattle.placing.proofs.Layouts.{opened-olds, opened-length, opened-newly, opened-news, rep-length, rep-granted, rep-passing, rep-each, granted, settle-passing, settle-each}
 use Rattle.placing.proofs.Ended.{olds-length, ended-wide, ended-granted}
-use Rattle.placing.proofs.Room.{Going, going, going-spare, each-less, Step, step}
-use Rattle.placing.proofs.Windows.{present-mem, mem-present, rising-present, rising-absent, groups-done}
+use Rattle.placing.proofs.Room.{Going, going, going-spare, each-less, step}
+use Rattle.placing.proofs.Windows.{present-mem, rising-present, rising-absent, groups-done}
 use Rattle.placing.proofs.Passes.{planned-done}
 
 -- ---- one group

@@ -10,7 +10,7 @@ use Rattle.tables.specs.declared.packed.Grant.{Grant}
 use Rattle.placing.specs.Rule.{Outcome, done, refused, weight, content, within, lawful, takes, firstLawful, contents, olds, put, group, rep, opened, settle, groups, present, rising, intervals, layout, row, rows, planned}
 
 -- number, size, interval, jitter
-abbrev flow : ℕ → ℕ → ℕ → ℕ → Flow
+abbrev pub flow : ℕ → ℕ → ℕ → ℕ → Flow
 flow n s i j = record { number = n; size = s; interval = i; jitter = j }
 
 -- flow, start, late
@@ -34,11 +34,10 @@ plans =
 
 -- a flow whose nominal time is not where its frame starts; and a push that runs through a full frame to a grant that bears none
 abbrev readings : List (List Flow × Outcome (List Grant))
-readings =
-    (
-      flow 1 1 4 3 ∷ flow 2 4 8 0 ∷ flow 3 1 8 0 ∷ flow 4 1 16 0 ∷ [],
-      done (grant 1 0 0 ∷ grant 2 1 0 ∷ grant 1 5 1 ∷ grant 3 6 0 ∷ grant 4 7 0 ∷ grant 1 8 0 ∷ grant 2 9 0 ∷ grant 1 13 1 ∷ grant 3 14 0 ∷ []),
-    )
+readings = (
+  flow 1 1 4 3 ∷ flow 2 4 8 0 ∷ flow 3 1 8 0 ∷ flow 4 1 16 0 ∷ [],
+  done (grant 1 0 0 ∷ grant 2 1 0 ∷ grant 1 5 1 ∷ grant 3 6 0 ∷ grant 4 7 0 ∷ grant 1 8 0 ∷ grant 2 9 0 ∷ grant 1 13 1 ∷ grant 3 14 0 ∷ []),
+)
     ∷ (flow 1 1 4 2 ∷ flow 2 3 8 2 ∷ flow 3 1 8 0 ∷ flow 4 3 16 0 ∷ [], refused 4)
     ∷ []
 

@@ -11,7 +11,7 @@ use Rattle.fields.specs.declared.flow.Flow.{Flow}
 use Rattle.lists.specs.Facts.{occupies}
 use Rattle.placing.specs.declared.Found.{Found}
 use Rattle.placing.specs.declared.Found.the-variants.{At, Nowhere}
-use Rattle.placing.specs.Rule.{Settled, Frame, content, past, within, lawful, takes, firstLawful, contents, olds, put, rep, opened}
+use Rattle.placing.specs.Rule.{Settled, Frame, content, past, lawful, takes, firstLawful, contents, olds, put, rep, opened}
 use Rattle.placing.proofs.Overhangs.{passing, Each, Spare, spare-within, lawful-each, each-lawful}
 use Rattle.placing.proofs.Placed.{takes-here, here-takes}
 use Rattle.placing.proofs.Layouts.{rep-passing, rep-each}

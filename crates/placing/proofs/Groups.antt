@@ -1,14 +1,12 @@
 -- The flows of one interval, placed one after the other. Assumes nothing.
 use mathlib.Core.Path.{_≡_, refl, sym, ap, _∙_, subst}
-use mathlib.Core.Bool.{true, false}
 use mathlib.Core.List.{List, [], _∷_}
 use Prim.Native.Nat.{ℕ, suc, _+_, _*_, _≤_, _<_}
 use native.Mathlib.Omega.{arith}
-use lib.Dec.{eqb}
 use lib.ListN.{length}
-use borrow.Author.Tests.{eqb-true, eqb-false, eq-eqb, ne-eqb}
+use borrow.Author.Tests.{eq-eqb, ne-eqb}
 use Rattle.logic.specs.Lists.{All, sum}
-use Rattle.logic.proofs.Tests.{by-test, by-eq}
+use Rattle.logic.proofs.Tests.{by-eq}
 use Rattle.fields.specs.declared.flow.Flow.{Flow}
 use Rattle.lists.specs.Facts.{occupies}
 use Rattle.law.proofs.Counting.{mark, mark-same, mark-other}
@@ -16,7 +14,7 @@ use Rattle.placing.specs.declared.Found.{Found}
 use Rattle.placing.specs.declared.Found.the-variants.{At, Nowhere}
 use Rattle.placing.specs.Rule.{Outcome, done, refused, Frame, firstLawful, contents, olds, put, group}
 use Rattle.placing.proofs.Overhangs.{passing, Each, Spare, Based}
-use Rattle.placing.proofs.Placed.{newly, Newly, Put, put-leaves}
+use Rattle.placing.proofs.Placed.{newly, Newly, put-leaves}
 
 -- ---- the three ways of a step
 
@@ -43,7 +41,7 @@ by-found Nowhere f g = g refl
 module _ (φ i : ℕ) (R : List Flow → List Frame → List Frame → Type 0)
     (end : (xs : List Frame) → R [] xs xs)
     (own : (k : ℕ) (f : Flow) (fs : List Flow) (xs ys : List Frame) → f .interval ≡ i
-        → firstLawful φ (occupies f) 0 0 (contents xs) (olds xs) ≡ At k → R fs (put f k xs) ys → R (f ∷ fs) xs ys)
+    → firstLawful φ (occupies f) 0 0 (contents xs) (olds xs) ≡ At k → R fs (put f k xs) ys → R (f ∷ fs) xs ys)
     (other : (f : Flow) (fs : List Flow) (xs ys : List Frame) → (f .interval ≡ i → ⊥) → R fs xs ys → R (f ∷ fs) xs ys) where
   pub group-ind : (p : ℕ) (fs : List Flow) (xs ys : List Frame) → group φ i p xs fs ≡ done ys → R fs xs ys
   unfolding group

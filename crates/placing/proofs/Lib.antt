@@ -12,3 +12,4 @@ pub mod Passes
 pub mod Room
 pub mod Always
 pub mod First
+pub mod Sanity

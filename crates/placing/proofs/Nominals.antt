@@ -1,13 +1,13 @@
 -- The nominal times of one flow in a layout. Assumes nothing.
 use mathlib.Core.Path.{_≡_, refl, sym, ap, _∙_}
 use mathlib.Core.Bool.{true, false}
-use mathlib.Core.List.{List, [], _∷_, _++_, map, append-assoc, append-nil}
-use Prim.Native.Nat.{ℕ, zero, suc, _+_, _-_, _*_, _≤_, _<_}
+use mathlib.Core.List.{List, [], _∷_, _++_, map, append-assoc}
+use Prim.Native.Nat.{ℕ, zero, suc, _+_, _*_}
 use native.Mathlib.Omega.{arith}
 use lib.Dec.{eqb}
 use lib.ListN.{length, length-append}
 use borrow.Author.Tests.{eq-eqb, ne-eqb}
-use Rattle.logic.specs.Lists.{All, sum}
+use Rattle.logic.specs.Lists.{sum}
 use Rattle.logic.proofs.Tests.{by-test, by-eq}
 use Rattle.logic.proofs.Progressions.{progression}
 use Rattle.fields.specs.declared.flow.Flow.{Flow}

@@ -1,8 +1,8 @@
 -- The planner's grants pass tests 12 and 14 to 18; they are as many as the list's, and each fits its record. Assumes nothing.
-use mathlib.Core.Path.{_≡_, refl, sym, ap, _∙_, subst}
+use mathlib.Core.Path.{_≡_, sym, ap, _∙_, subst}
 use mathlib.Core.Bool.{true}
 use mathlib.Core.List.{List, [], _∷_}
-use Prim.Native.Nat.{ℕ, _+_, _-_, _*_, _/_, _≤_, _<_}
+use Prim.Native.Nat.{ℕ, _+_, _*_, _/_, _≤_, _<_}
 use native.Mathlib.Omega.{arith}
 use native.Mathlib.Nat.{div-eq-of-eq-mul-left}
 use lib.ListN.{length, length-map}
@@ -26,7 +26,7 @@ use Rattle.placing.specs.Rule.{Outcome, done, refused, Settled, opened, 
 use Rattle.placing.proofs.Overhangs.{passing}
 use Rattle.placing.proofs.Tables.{Timed, rows-times, rows-timed, rows-chain}
 use Rattle.placing.proofs.Windows.{by-outcome, done-not-refused, groups-place}
-use Rattle.placing.proofs.Standing.{Steps, Stands, stands}
+use Rattle.placing.proofs.Standing.{Stands, stands}
 
 -- ---- the grants come from a layout, and so does the refused place
 

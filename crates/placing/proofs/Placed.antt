@@ -2,7 +2,7 @@
 use mathlib.Core.Path.{_≡_, refl, ap, subst}
 use mathlib.Core.Bool.{true, false}
 use mathlib.Core.List.{List, [], _∷_, _++_}
-use Prim.Native.Nat.{ℕ, zero, suc, _+_, _-_, _≤_, _<_}
+use Prim.Native.Nat.{ℕ, suc, _+_, _≤_, _<_}
 use native.Mathlib.Omega.{arith}
 use lib.Dec.{ltb}
 use borrow.Author.Tests.{ltb-true, lt-ltb}
@@ -12,7 +12,7 @@ use Rattle.logic.proofs.Members.{all-imp}
 use Rattle.logic.proofs.Appends.{all-append, sum-append}
 use Rattle.fields.specs.declared.flow.Flow.{Flow}
 use Rattle.lists.specs.Facts.{occupies}
-use Rattle.placing.specs.declared.Found.the-variants.{At, Nowhere}
+use Rattle.placing.specs.declared.Found.the-variants.{At}
 use Rattle.placing.specs.Rule.{Settled, Frame, content, past, lawful, takes, firstLawful, contents, olds, put}
 use Rattle.placing.proofs.Overhangs.{passing, Each, Spare, Based, each-along, lawful-each}
 
@@ -41,7 +41,7 @@ here-takes φ f o x xs l w = rw (lt-ltb (o + content x) φ l, takes) (rw (conten
 -- induction over the search: what holds where the flow is put, and of a frame that is passed by
 module _ (φ : ℕ) (f : Flow) (R : ℕ → List Frame → List Frame → Type 0)
     (here : (o : ℕ) (x : Frame) (xs : List Frame) → o + content x < φ
-        → lawful φ o (contents (with-flow f x ∷ xs)) (olds (with-flow f x ∷ xs)) ≡ true → R o (x ∷ xs) (with-flow f x ∷ xs))
+    → lawful φ o (contents (with-flow f x ∷ xs)) (olds (with-flow f x ∷ xs)) ≡ true → R o (x ∷ xs) (with-flow f x ∷ xs))
     (beyond : (o : ℕ) (x : Frame) (xs ys : List Frame) → R (past φ o (content x)) xs ys → R o (x ∷ xs) (x ∷ ys)) where
   search-ind : (k n o : ℕ) (xs : List Frame) → firstLawful φ (occupies f) k o (contents xs) (olds xs) ≡ At n
       → (j : ℕ) × (n ≡ k + j) × R o xs (put f j xs)

@@ -2,10 +2,10 @@
 use mathlib.Core.Path.{_≡_, refl, sym, ap, _∙_, subst}
 use mathlib.Core.Bool.{true}
 use mathlib.Core.List.{List, [], _∷_}
-use Prim.Native.Nat.{ℕ, suc, _+_, _-_, _*_, _/_, _≤_, _<_}
+use Prim.Native.Nat.{ℕ, suc, _+_, _*_, _/_, _≤_, _<_}
 use native.Mathlib.Omega.{arith}
 use lib.Dec.{eqb}
-use lib.ListN.{length, length-map}
+use lib.ListN.{length}
 use Rattle.logic.specs.Lists.{All, sum}
 use Rattle.logic.proofs.Tests.{by-test, by-eq}
 use Rattle.logic.proofs.Members.{Mem, mem-all, all-imp, all-both}
@@ -24,7 +24,7 @@ use Rattle.placing.specs.Rule.{done, Settled, Frame, content, weight, ol
 use Rattle.placing.proofs.Overhangs.{passing, Each, Spare, Based}
 use Rattle.placing.proofs.Placed.{newly, Newly}
 use Rattle.placing.proofs.Groups.{Grouped, group-leaves}
-use Rattle.placing.proofs.Layouts.{opened-olds, opened-newly, opened-news, rep-length, rep-passing, rep-each, granted, settle-length, settle-passing, settle-each, settle-granted}
+use Rattle.placing.proofs.Layouts.{opened-newly, opened-news, rep-passing, rep-each, granted, settle-passing, settle-each}
 use Rattle.placing.proofs.Ended.{ended-olds, ended-wide, ended-granted}
 use Rattle.placing.proofs.Nominals.{nominals, numbered, nominals-length, nominals-rep, nominals-settle}
 use Rattle.placing.proofs.Tables.{Timed, rows-times, rows-timed, rows-chain}

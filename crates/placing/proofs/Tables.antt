@@ -1,7 +1,7 @@
 -- The grants of a layout, as they stand in the table. Assumes nothing.
-use mathlib.Core.Path.{_≡_, refl, sym, ap, _∙_, subst}
-use mathlib.Core.Bool.{true, false}
-use mathlib.Core.List.{List, [], _∷_, _++_, map}
+use mathlib.Core.Path.{_≡_, refl, ap, subst}
+use mathlib.Core.Bool.{true}
+use mathlib.Core.List.{List, [], _∷_, _++_}
 use Prim.Native.Nat.{ℕ, _+_, _-_, _*_, _≤_}
 use native.Mathlib.Omega.{arith}
 use lib.Dec.{eqb}
@@ -14,7 +14,7 @@ use Rattle.fields.specs.declared.flow.Flow.{Flow}
 use Rattle.lists.specs.Facts.{occupies}
 use Rattle.lists.specs.Accepted.{Distinct}
 use Rattle.tables.specs.declared.packed.Grant.{Grant}
-use Rattle.law.specs.Check.{known, look, slots, nominal, to}
+use Rattle.law.specs.Check.{known, slots, nominal, to}
 use Rattle.law.proofs.Listed.{mem-known, look-mem}
 use Rattle.law.proofs.Chains.{Chain}
 use Rattle.law.proofs.Times.{times, Punctual}

@@ -1,6 +1,6 @@
 -- The groups of a list, one interval after the other. Assumes nothing.
 use mathlib.Core.Path.{_≡_, refl, sym, ap, _∙_, subst}
-use mathlib.Core.Bool.{Bool, true, false}
+use mathlib.Core.Bool.{true, false}
 use mathlib.Core.List.{List, [], _∷_, List·Memᴰ·head, List·Memᴰ·tail, List·Memᴰ·not-nil}
 use Prim.Native.Nat.{ℕ, zero, suc, _+_, _/_, _≤_}
 use native.Mathlib.Omega.{arith}
@@ -67,7 +67,7 @@ groups-refused φ t i p fs hs is e = rw (e, groups)
 module _ (fs : List Flow) (S : ℕ → ℕ → List (List Settled) → Type 0)
     (absent : (t s : ℕ) (hs : List (List Settled)) → ((g : Flow) → Mem g fs → g .interval ≡ suc t → ⊥) → S t s hs → S (suc t) s hs)
     (placed : (t s : ℕ) (hs : List (List Settled)) (xs : List Frame) (g : Flow) → Mem g fs → g .interval ≡ suc t
-        → group (frame fs) (suc t) 1 (opened (rep (suc t / s) hs)) fs ≡ done xs → S t s hs → S (suc t) (suc t) (settle (frame fs) 0 xs)) where
+    → group (frame fs) (suc t) 1 (opened (rep (suc t / s) hs)) fs ≡ done xs → S t s hs → S (suc t) (suc t) (settle (frame fs) 0 xs)) where
   groups-keep : (n t s : ℕ) (hs r : List (List Settled)) → groups (frame fs) fs s hs (rising fs t n) ≡ done r → S t s hs → (w : ℕ) × S (t + n) w r
   unfolding rising groups
   groups-keep zero t s hs r e a =
