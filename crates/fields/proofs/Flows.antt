@@ -1,6 +1,6 @@
 -- A flow's rule, and its record there and back. Assumes nothing.
 use mathlib.Core.Path.{_≡_, ap, _∙_}
-use mathlib.Core.Bool.{true}
+use mathlib.Core.Bool.{true, false}
 use mathlib.Core.List.{List, [], _∷_, _++_}
 use Prim.Native.Nat.{ℕ, _≤_, _<_}
 use native.Mathlib.Omega.{arith}
@@ -63,6 +63,15 @@ rule-kept f k =
 pub rule-broken : (f : Flow) → (Keeps f → ⊥) → Broken ≡ rule f
 unfolding rule
 rule-broken f n = by-test (keeps f) (λ e. absurd (n (keeps-is f e))) (λ e. rw e)
+
+-- and what its answer says
+pub kept-keeps : (f : Flow) → rule f ≡ Kept → keeps f ≡ true
+unfolding rule
+kept-keeps f e = by-test (keeps f) (λ t. t) (λ t. let b : Broken ≡ Kept = rw t at e in let z : _≡_ {A = ℕ} 0 1 = cc in absurd (omega arith))
+
+pub broken-keeps : (f : Flow) → rule f ≡ Broken → keeps f ≡ false
+unfolding rule
+broken-keeps f e = by-test (keeps f) (λ t. let b : Kept ≡ Broken = rw t at e in let z : _≡_ {A = ℕ} 0 1 = cc in absurd (omega arith)) (λ t. t)
 
 -- ---- the record
 

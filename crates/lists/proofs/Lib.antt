@@ -1,3 +1,5 @@
 pub mod Records
+pub mod Turns
+pub mod Verdicts
 pub mod Cycle
 pub mod Accepted

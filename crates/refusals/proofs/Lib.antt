@@ -1,4 +1,5 @@
 pub mod Lowest
+pub mod Walks
 pub mod Chains
 pub mod Rooms
 pub mod Entries
