@@ -22,6 +22,11 @@ chain-le : (fs : List Flow) (a b : ℕ) (rs : List Grant) → Chain fs a b rs �
 chain-le fs a b [] c = c
 chain-le fs a b (r ∷ rs) c = omega (arith, chain-le fs (r .start + slots fs r) b rs (c .1))
 
+-- from an earlier slot on
+pub chain-earlier : (fs : List Flow) (a c b : ℕ) (rs : List Grant) → a ≤ c → Chain fs c b rs → Chain fs a b rs
+chain-earlier fs a c b [] l h = omega arith
+chain-earlier fs a c b (r ∷ rs) l h = (omega arith, h .1)
+
 -- all that is granted fits between the ends
 pub chain-sum : (fs : List Flow) (a b : ℕ) (rs : List Grant) → Chain fs a b rs → a + sum (slots fs) rs ≤ b
 unfolding sum

@@ -2,7 +2,7 @@
 use mathlib.Core.Path.{_≡_, sym, ap, _∙_, subst}
 use mathlib.Core.Bool.{true}
 use mathlib.Core.List.{List, [], _∷_}
-use Prim.Native.Nat.{ℕ, _+_, _*_, _/_, _≤_, _<_}
+use Prim.Native.Nat.{ℕ, _+_, _/_, _≤_, _<_}
 use native.Mathlib.Omega.{arith}
 use native.Mathlib.Nat.{div-eq-of-eq-mul-left}
 use lib.ListN.{length, length-map}
@@ -18,12 +18,11 @@ use Rattle.tables.specs.declared.packed.Grant.{Grant}
 use Rattle.tables.specs.Form.{test12}
 use Rattle.law.specs.Check.{known, look, slots, nominal, to, last, tests14to18}
 use Rattle.law.proofs.Listed.{known-mem, slots-pos}
-use Rattle.law.proofs.Chains.{Chain, chain-clear, chain-inside, chain-rising}
+use Rattle.law.proofs.Chains.{Chain, chain-earlier, chain-clear, chain-inside, chain-rising}
 use Rattle.law.proofs.Times.{Punctual, times, progression-first, times-pass}
 use Rattle.law.proofs.Reading.{Reads, reads12, passes-reads}
 use Rattle.law.proofs.Oversold.{passes-length}
-use Rattle.placing.specs.Rule.{Outcome, done, refused, Settled, opened, intervals, layout, rows, planned}
-use Rattle.placing.proofs.Overhangs.{passing}
+use Rattle.placing.specs.Rule.{Outcome, done, refused, Settled, intervals, layout, rows, planned}
 use Rattle.placing.proofs.Tables.{Timed, rows-times, rows-timed, rows-chain}
 use Rattle.placing.proofs.Windows.{by-outcome, done-not-refused, groups-place}
 use Rattle.placing.proofs.Standing.{Stands, stands}
@@ -77,8 +76,8 @@ module _ (fs : List Flow) (ok : Accepted fs) (gs : List Grant) (plan : planned f
 
   chain : Chain fs 0 (cycle fs) gs
   chain =
-      let b : 0 + length hs * frame fs + passing (frame fs) 0 (opened hs) ≡ cycle fs = omega (arith, stand .wide, stand .clear) in
-      subst (λ (c : ℕ). Chain fs 0 c gs) b (subst (Chain fs (0 + 0) (0 + length hs * frame fs + passing (frame fs) 0 (opened hs))) are (rows-chain fs (ok .distinct) (frame fs) 0 0 hs (stand .based)))
+      chain-earlier fs 0 (0 + 0) (cycle fs) gs (omega arith)
+      (subst (Chain fs (0 + 0) (cycle fs)) are (rows-chain fs (ok .distinct) (frame fs) 0 0 (cycle fs) hs (stand .based) (omega (arith, stand .wide, stand .clear))))
 
   -- a flow's nominal times step by its interval, cycle / interval of them, the first below the interval
   pub planned-steps : (f : Flow) → Mem f fs → (t : ℕ) × (t < f .interval) × (times 0 (f .number) gs ≡ progression t (f .interval) (grantsOf (cycle fs) f))

@@ -150,14 +150,10 @@ module _ (fs : List Flow) (ok : Accepted fs) where
     -- every record of the group's window starts inside it
     inside : All (λ r. r .start < i) (rows φ 0 0 ended)
     inside =
-        let c = chain-inside fs (0 + 0) (0 + length ended * φ + passing φ 0 (opened ended)) (rows φ 0 0 ended) (rows-chain fs (ok .distinct) φ 0 0 ended based) in
-        all-both (λ r. r .start + slots fs r ≤ 0 + length ended * φ + passing φ 0 (opened ended)) (λ r. 0 < slots fs r) (λ r. r .start < i) (rows φ 0 0 ended)
-        (λ r p q. omega (arith, wide, clear)) c
+        all-both (λ r. r .start + slots fs r ≤ i) (λ r. 0 < slots fs r) (λ r. r .start < i) (rows φ 0 0 ended) (λ r p q. omega arith)
+        (chain-inside fs (0 + 0) i (rows φ 0 0 ended) (rows-chain fs (ok .distinct) φ 0 0 i ended based (omega (arith, wide, clear))))
         (slots-pos fs (rows φ 0 0 ended) (mem-all (λ f. 0 < occupies f) fs (occupies-pos fs ok))
-        (all-known (rows φ 0 0 ended) (rows-timed fs (ok .distinct) φ 0 0 ended based spare)))
-      where
-        all-known : (rs : List Grant) → All (Timed fs (ok .distinct)) rs → All (λ r. known fs (r .flow) ≡ true) rs
-        all-known rs = all-imp (Timed fs (ok .distinct)) (λ r. known fs (r .flow) ≡ true) rs (λ r p. p .0)
+        (all-imp (Timed fs (ok .distinct)) (λ r. known fs (r .flow) ≡ true) (rows φ 0 0 ended) (λ r p. p .0) (rows-timed fs (ok .distinct) φ 0 0 ended based spare)))
 
     steps : (f : Flow) → Mem f fs → f .interval ≤ i → Steps φ ended f
     steps f m l =
