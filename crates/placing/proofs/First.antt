@@ -11,9 +11,10 @@ use Rattle.fields.specs.declared.flow.Flow.{Flow}
 use Rattle.lists.specs.Facts.{occupies}
 use Rattle.placing.specs.declared.Found.{Found}
 use Rattle.placing.specs.declared.Found.the-variants.{At, Nowhere}
-use Rattle.placing.specs.Rule.{Settled, Frame, content, past, lawful, takes, firstLawful, contents, olds, put, rep, opened}
+use Rattle.placing.specs.Rule.{done, Settled, Frame, content, past, lawful, takes, firstLawful, contents, olds, put, group, rep, opened}
 use Rattle.placing.proofs.Overhangs.{passing, Each, Spare, spare-within, lawful-each, each-lawful}
 use Rattle.placing.proofs.Placed.{takes-here, here-takes}
+use Rattle.placing.proofs.Groups.{group-ind}
 use Rattle.placing.proofs.Layouts.{rep-passing, rep-each}
 
 -- a frame that a window has not
@@ -125,3 +126,17 @@ module _ (φ : ℕ) (f : Flow) where
 pub copies-lawful : (φ m : ℕ) (hs : List (List Settled)) → passing φ 0 (opened hs) ≡ 0 → Each (Spare 0) φ 0 (opened hs)
     → lawful φ 0 (contents (opened (rep m hs))) (olds (opened (rep m hs))) ≡ true
 copies-lawful φ m hs z s = each-lawful 0 φ 0 (opened (rep m hs)) (rep-passing φ hs z m) (rep-each φ hs z (Spare 0) m s)
+
+-- the flows of interval i among fs, one after the other, each in its first lawful frame: the frames are xs before and ys after
+abbrev pub Placing : ℕ → ℕ → List Flow → List Frame → List Frame → Type 0
+Placing φ i [] xs ys = xs ≡ ys
+Placing φ i (f ∷ fs) xs ys =
+    ((f .interval ≡ i) × ((k : ℕ) × First φ f xs k × Placing φ i fs (put f k xs) ys)) ⊎ ((f .interval ≡ i → ⊥) × Placing φ i fs xs ys)
+
+-- so a group is placed
+pub group-first : (φ i p : ℕ) (fs : List Flow) (xs ys : List Frame) → group φ i p xs fs ≡ done ys → lawful φ 0 (contents xs) (olds xs) ≡ true → Placing φ i fs xs ys
+group-first φ i =
+    group-ind φ i (λ fs xs ys. lawful φ 0 (contents xs) (olds xs) ≡ true → Placing φ i fs xs ys)
+    (λ xs l. refl)
+    (λ k f fs xs ys e w ih l. let first = found-first φ f xs l k .0 w in inl (e, (k, first, ih (first .0 .whole))))
+    (λ f fs xs ys e ih l. inr (e, ih l))
