@@ -51,6 +51,7 @@ record Bears (fs : List Flow) (t n s : ℕ) (hs : List (List Settled)) : Type 0 
   round : rounds * s ≡ cycle fs
   fits : granted occupies hs * rounds + sum (coming (cycle fs) t) fs ≤ cycle fs
 
+-- the factors of a number that is not 0
 factors : (a b c : ℕ) → a * b ≡ c → 0 < c → (0 < a) × (0 < b)
 factors zero b c e h = absurd (omega arith)
 factors (suc a) zero c e h = absurd (omega arith)
@@ -77,24 +78,28 @@ module _ (fs : List Flow) (ok : Accepted fs) (tolerant : Tolerant fs) where
     abbrev q : ℕ
     q = cycle fs / i
 
+    -- the copies of the layout fill the window
     whole : k * s ≡ i
     whole = rw (← here) (b .divides g own (omega arith))
 
+    -- the windows fill the cycle
     round : q * i ≡ cycle fs
     round = rw (← here) (divides-cycle fs ok g own)
 
-    -- so many copies, each so often
+    -- the layout comes so often in the cycle
     times : b .rounds ≡ q * k
     times =
         let pos : 0 < s = factors k s i whole (omega arith) .1 in
         let c : cycle fs ≡ q * k * s = omega (arith, round, ap (λ (x : ℕ). q * x) whole) in
         sym (div-eq-of-eq-mul-left pos (sym (b .round))) ∙ div-eq-of-eq-mul-left pos c
 
+    -- the load of this window, and what is still to come, fit in the cycle
     fits : (k * granted occupies hs + slots) * q + sum (coming (cycle fs) i) fs ≤ cycle fs
     fits =
         let l : sum (coming (cycle fs) t) fs ≡ slots * q + sum (coming (cycle fs) i) fs = rw next (load-next (cycle fs) t fs) in
         omega (arith, b .fits, l, ap (λ (x : ℕ). granted occupies hs * x) times)
 
+    -- so this window has room for its flows
     room : k * granted occupies hs + slots ≤ i
     room =
         let h : q * (k * granted occupies hs + slots) ≤ q * i = omega (arith, fits, round) in
@@ -103,15 +108,18 @@ module _ (fs : List Flow) (ok : Accepted fs) (tolerant : Tolerant fs) where
     abbrev copies : List (List Settled)
     copies = rep k hs
 
+    -- the group is under way before its first flow
     under-way : Going φ d e 0 (opened copies)
     unfolding above
     under-way =
         let m : above fs t (suc n) ≡ d + e = rw next in
         going φ d e 0 0 (opened copies) (omega arith) (omega arith) (rep-each φ hs (b .clear) (Spare (d + e)) k (rw m at (b .spare)))
 
+    -- a flow of the group pushes at most d
     fit : (f : Flow) → Mem f fs → f .interval ≡ i → (0 < occupies f) × (occupies f ≤ d + 1)
     fit f m x = (occupies-pos fs ok f m, omega (arith, occupies-largest fs f m, ap (λ (x : ℕ). largest x fs) x))
 
+    -- and bears what later groups push
     bearing : (f : Flow) → Mem f fs → f .interval ≡ i → e ≤ f .jitter
     unfolding need
     bearing f m x =
@@ -153,6 +161,7 @@ module _ (fs : List Flow) (ok : Accepted fs) (tolerant : Tolerant fs) where
           },
         )
 
+  -- the groups of the n lengths above t
   always-groups : (n t s : ℕ) (hs : List (List Settled)) → t + n ≡ cycle fs → Bears fs t n s hs
       → (r : List (List Settled)) × (groups (frame fs) fs s hs (rising fs t n) ≡ done r)
   unfolding rising groups above
@@ -178,6 +187,7 @@ module _ (fs : List Flow) (ok : Accepted fs) (tolerant : Tolerant fs) where
       }) in
       (r .0, rw (rising-absent fs t n p) (r .1)))
 
+  -- a tolerant list whose load fits in the cycle is planned
   pub always-planned : load fs ≤ cycle fs → (gs : List Grant) × (planned fs ≡ done gs)
   unfolding layout intervals load granted sum opened passing content weight
   always-planned l =

@@ -2,20 +2,21 @@
 use mathlib.Core.Path.{_≡_, refl, ap}
 use mathlib.Core.Bool.{true}
 use mathlib.Core.List.{List, [], _∷_, _++_}
-use Prim.Native.Nat.{ℕ, _+_, _-_, _*_, _≤_}
+use Prim.Native.Nat.{ℕ, _+_, _-_, _*_, _≤_, _<_}
 use native.Mathlib.Omega.{arith}
 use lib.Dec.{eqb}
 use lib.ListN.{length}
 use Rattle.logic.specs.Lists.{All, sum}
 use Rattle.logic.proofs.Tests.{by-test}
-use Rattle.logic.proofs.Members.{Mem}
+use Rattle.logic.proofs.Members.{Mem, mem-all, all-imp}
 use Rattle.logic.proofs.Appends.{all-append}
 use Rattle.fields.specs.declared.flow.Flow.{Flow}
 use Rattle.lists.specs.Facts.{occupies}
-use Rattle.lists.specs.Accepted.{Distinct}
+use Rattle.lists.specs.Accepted.{Accepted}
+use Rattle.lists.proofs.Cycle.{occupies-pos}
 use Rattle.tables.specs.declared.packed.Grant.{Grant}
 use Rattle.law.specs.Check.{known, slots, nominal, to}
-use Rattle.law.proofs.Listed.{mem-known, look-mem}
+use Rattle.law.proofs.Listed.{mem-known, look-mem, slots-pos}
 use Rattle.law.proofs.Chains.{Chain, chain-earlier}
 use Rattle.law.proofs.Times.{times, Punctual}
 use Rattle.placing.specs.Rule.{Settled, weight, past, opened, row, rows}
@@ -53,24 +54,29 @@ rows-times P φ n a o (h ∷ hs) b =
 
 -- ---- each record is a listed flow's, and on time
 
-module _ (fs : List Flow) (d : Distinct fs) where
-  -- what is said of a record
-  abbrev pub Timed : Grant → Type 0
-  Timed r = (known fs (r .flow) ≡ true) × Punctual 0 fs r
+abbrev pub Timed : List Flow → Grant → Type 0
+Timed fs r = (known fs (r .flow) ≡ true) × Punctual 0 fs r
 
-  row-timed : (p o : ℕ) (h : List Settled) → o ≤ p → Based (λ f. Mem f fs) o h → Spare 0 o h → All Timed (row p o h)
+module _ (fs : List Flow) (ok : Accepted fs) where
+  pub timed-listed : (rs : List Grant) → All (Timed fs) rs → All (λ r. known fs (r .flow) ≡ true) rs
+  timed-listed rs = all-imp (Timed fs) (λ r. known fs (r .flow) ≡ true) rs (λ r p. p .0)
+
+  pub timed-slots : (rs : List Grant) → All (Timed fs) rs → All (λ r. 0 < slots fs r) rs
+  timed-slots rs a = slots-pos fs rs (mem-all (λ f. 0 < occupies f) fs (occupies-pos fs ok)) (timed-listed rs a)
+
+  row-timed : (p o : ℕ) (h : List Settled) → o ≤ p → Based (λ f. Mem f fs) o h → Spare 0 o h → All (Timed fs) (row p o h)
   unfolding row
   row-timed p o [] l b s = tt
   row-timed p o (g ∷ h) l b s = (
-    (mem-known fs (g .flow) (b .0 .1), (rw (look-mem fs d (g .flow) (b .0 .1)) (omega arith), omega arith)),
+    (mem-known fs (g .flow) (b .0 .1), (rw (look-mem fs (ok .distinct) (g .flow) (b .0 .1)) (omega arith), omega arith)),
     row-timed (p + occupies (g .flow)) o h (omega arith) (b .1) (s .1),
   )
 
-  pub rows-timed : (φ a o : ℕ) (hs : List (List Settled)) → Each (Based (λ f. Mem f fs)) φ o (opened hs) → Each (Spare 0) φ o (opened hs) → All Timed (rows φ a o hs)
+  pub rows-timed : (φ a o : ℕ) (hs : List (List Settled)) → Each (Based (λ f. Mem f fs)) φ o (opened hs) → Each (Spare 0) φ o (opened hs) → All (Timed fs) (rows φ a o hs)
   unfolding rows opened
   rows-timed φ a o [] b s = tt
   rows-timed φ a o (h ∷ hs) b s =
-      all-append Timed (row (a + o) o h) (rows φ (a + φ) (past φ o (weight h)) hs) (row-timed (a + o) o h (omega arith) (b .0) (s .0))
+      all-append (Timed fs) (row (a + o) o h) (rows φ (a + φ) (past φ o (weight h)) hs) (row-timed (a + o) o h (omega arith) (b .0) (s .0))
       (rows-timed φ (a + φ) (past φ o (weight h)) hs (rw (content-unfilled h) at (b .1)) (rw (content-unfilled h) at (s .1)))
 
   -- ---- the records stand one after another, up to what passes the end of the last frame
@@ -80,7 +86,7 @@ module _ (fs : List Flow) (d : Distinct fs) where
   row-chain p o b [] rs m c = chain-earlier fs p (p + 0) b rs (omega arith) c
   row-chain p o b (g ∷ h) rs m c = (
     omega arith,
-    rw (look-mem fs d (g .flow) (m .0 .1))
+    rw (look-mem fs (ok .distinct) (g .flow) (m .0 .1))
         (row-chain (p + occupies (g .flow)) o b h rs (m .1)
         (chain-earlier fs (p + occupies (g .flow) + weight h) (p + (occupies (g .flow) + weight h)) b rs (omega arith) c)),
   )
