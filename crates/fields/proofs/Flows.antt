@@ -1,5 +1,5 @@
 -- A flow's rule, and its record there and back. Assumes nothing.
-use mathlib.Core.Path.{_≡_, ap, _∙_}
+use mathlib.Core.Path.{_≡_, sym, ap, _∙_, subst}
 use mathlib.Core.Bool.{true, false}
 use mathlib.Core.List.{List, [], _∷_, _++_}
 use Prim.Native.Nat.{ℕ, _≤_, _<_}
@@ -15,6 +15,7 @@ use Rattle.fields.specs.Packed.{Fit}
 use Rattle.fields.specs.Kinds.{widths}
 use Rattle.fields.specs.Records.{packed, valuesOf}
 use Rattle.fields.specs.Flows.{noFlow, among, keeps, rule, fieldsOf, flowWith, flowOf, packedFlow}
+use Rattle.fields.proofs.Packed.{fit-length, six-values}
 use Rattle.fields.proofs.Records.{length-packed, values-short, values-packed, packed-values, values-fit}
 
 -- the rule, as orders
@@ -28,7 +29,7 @@ pub record Keeps (f : Flow) : Type 0 where
   pub fitting : f .size ≤ f .interval
   pub tolerable : f .jitter < f .interval
 
-among-both : (a b x : ℕ) → among a b x ≡ true → (a ≤ x) × (x ≤ b)
+pub among-both : (a b x : ℕ) → among a b x ≡ true → (a ≤ x) × (x ≤ b)
 among-both a b x h =
     let both = and-both (leb a x) (leb x b) h in
     (leb-true a x (both .0), leb-true x b (both .1))
@@ -95,17 +96,12 @@ flow-packed f rest k = ap flowWith (values-packed ListRecord (fieldsOf f) rest (
 
 -- of six values of which the last two have no width, the first four are all
 pub four-values : (w x y z : ℕ) (vs : List ℕ) → Fit (w ∷ x ∷ y ∷ z ∷ 0 ∷ 0 ∷ []) vs → getD vs 0 0 ∷ getD vs 1 0 ∷ getD vs 2 0 ∷ getD vs 3 0 ∷ 0 ∷ 0 ∷ [] ≡ vs
-four-values w x y z (a ∷ b ∷ c ∷ d ∷ e ∷ g ∷ []) h =
-    let e₀ : e ≡ 0 = omega arith in
-    let g₀ : g ≡ 0 = omega arith in
-    rw (e₀, g₀)
-four-values w x y z [] h = absurd h
-four-values w x y z (a ∷ []) h = absurd (h .1)
-four-values w x y z (a ∷ b ∷ []) h = absurd (h .1 .1)
-four-values w x y z (a ∷ b ∷ c ∷ []) h = absurd (h .1 .1 .1)
-four-values w x y z (a ∷ b ∷ c ∷ d ∷ []) h = absurd (h .1 .1 .1 .1)
-four-values w x y z (a ∷ b ∷ c ∷ d ∷ e ∷ []) h = absurd (h .1 .1 .1 .1 .1)
-four-values w x y z (a ∷ b ∷ c ∷ d ∷ e ∷ g ∷ i ∷ vs) h = absurd (h .1 .1 .1 .1 .1 .1)
+four-values w x y z vs h =
+    let six = six-values vs (sym (fit-length (w ∷ x ∷ y ∷ z ∷ 0 ∷ 0 ∷ []) vs h)) in
+    let fit = subst (Fit (w ∷ x ∷ y ∷ z ∷ 0 ∷ 0 ∷ [])) (sym six) h in
+    let e : getD vs 4 0 ≡ 0 = omega (arith, fit .1 .1 .1 .1 .0) in
+    let g : getD vs 5 0 ≡ 0 = omega (arith, fit .1 .1 .1 .1 .1 .0) in
+    rw (e, g) at six
 
 -- and the bytes of a whole record are written back
 pub packed-flow : (s : List ℕ) → length s ≡ 6 → ((i : ℕ) → getD s i 0 < 256) → packedFlow (flowOf s) ≡ s

@@ -2,5 +2,7 @@ pub mod Packed
 pub mod Turns
 pub mod Widths
 pub mod Records
+pub mod Places
+pub mod Runs
 pub mod Flows
 pub mod Cases

@@ -9,7 +9,7 @@ use lib.Seq.{drop-cons}
 use Rattle.refusals.specs.declared.Refusal.{Refusal}
 use Rattle.refusals.specs.declared.Checked.{Checked}
 use Rattle.refusals.specs.declared.Checked.the-variants.{Passed, Refused}
-use Rattle.refusals.specs.Tests.{lowest, against}
+use Rattle.refusals.specs.Tests.{lowest, against, after}
 use Rattle.refusals.proofs.Lowest.{lowest-next, lowest-here}
 
 -- the entries before entry i, the nearest first
@@ -53,3 +53,10 @@ module _ {ℓ} {A : Type ℓ} (refusal : ℕ → Refusal) (ok : List A → A →
     pub walk-here : b ≡ false → Refused (refusal (i + 1)) ≡ walk refusal ok xs d i
     walk-here t =
         sym (ap (lowest refusal (i + 1)) opens ∙ lowest-here refusal (i + 1) b (against ok (before xs d (suc i)) (drop (suc i) xs)) t)
+
+-- a test against the entry before alone
+pub against-after {ℓ} : {A : Type ℓ} (ok : A → A → Bool) (y : A) (seen : List A) (x : A) (xs : List A)
+    → against (after ok) (y ∷ seen) (x ∷ xs) ≡ ok y x ∷ against (after ok) (x ∷ []) xs
+unfolding against after
+against-after ok y seen x [] = refl
+against-after ok y seen x (z ∷ xs) = rw (against-after ok x (y ∷ seen) z xs, against-after ok x [] z xs)
