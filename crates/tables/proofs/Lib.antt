@@ -2,3 +2,4 @@ pub mod Records
 pub mod Walk
 pub mod Forms
 pub mod Windows
+pub mod Meaning

@@ -21,6 +21,7 @@ use Rattle.tables.specs.declared.packed.Grant.{Grant}
 use Rattle.tables.specs.Tables.{cycleOf, count, place, grantsFrom, grantsOf}
 use Rattle.tables.specs.Form.{formed, rises, test11, test12, formTests}
 use Rattle.tables.specs.Window.{test19, windowTests, before, startingIn, edge}
+use Rattle.tables.proofs.Walk.{length-grants}
 use Rattle.tables.proofs.Forms.{Formed, formed-is}
 
 -- ---- test 19
@@ -54,11 +55,6 @@ before-mono a b (g ∷ gs) h =
     (λ l. rw (lt-ltb (g .start) a l, lt-ltb (g .start) b (omega arith)) (suc-le-suc (before-mono a b gs h)))
     (λ l. rw (le-ltb (g .start) a l) zero-le)
 
-pub length-grants-from : (t : List ℕ) (i n : ℕ) → length (grantsFrom t i n) ≡ n
-unfolding grantsFrom
-length-grants-from t i zero = refl
-length-grants-from t i (suc n) = ap suc (length-grants-from t (suc i) n)
-
 -- ---- what the tests leave
 
 -- a table and a window that pass tests 11, 12 and 19
@@ -84,11 +80,9 @@ lawful t a b e =
 -- the stretch stands in order inside the table
 pub lawful-edges : (t : List ℕ) (a b : ℕ) → Lawful t a b
     → (before a (grantsOf t) ≤ before b (grantsOf t)) × (before b (grantsOf t) ≤ 1024) × (place (before b (grantsOf t)) ≤ length t)
-unfolding grantsOf
 lawful-edges t a b w =
     let le = before-le b (grantsOf t) in
-    let len : length (grantsOf t) ≡ count t = length-grants-from t 0 (count t) in
-    (before-mono a b (grantsOf t) (w .ordered), omega (arith, w .form .count-le), omega (arith, w .form .exact))
+    (before-mono a b (grantsOf t) (w .ordered), omega (arith, length-grants t, w .form .count-le), omega (arith, length-grants t, w .form .exact))
 
 module _ (k : Checked) (t : List ℕ) (a : ℕ) where
   pub edge-passed : k ≡ Passed → edge k t a ≡ place (before a (grantsOf t))
