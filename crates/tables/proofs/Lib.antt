@@ -3,3 +3,4 @@ pub mod Walk
 pub mod Forms
 pub mod Windows
 pub mod Meaning
+pub mod Contents

@@ -175,7 +175,7 @@ module _ (t : List ℕ) (b : (i : ℕ) → getD t i 0 < 256) where
     unfolding head headOf
     head-again = rw (length-grants t, head-fields) (packed-front TableHead t (f .long) b)
 
-    records-again : records (grantsOf t) ≡ drop 8 t
+    pub records-again : records (grantsOf t) ≡ drop 8 t
     unfolding grantsOf
     records-again =
         records-run (grantsOf t)
