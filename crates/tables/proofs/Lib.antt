@@ -4,3 +4,4 @@ pub mod Forms
 pub mod Windows
 pub mod Meaning
 pub mod Contents
+pub mod Cases
