@@ -117,5 +117,5 @@ module _ (kind : Kind) where
       let front = take (bytes kind) s in
       let l : length front ≡ bytes kind = length-take-le (bytes kind) s h in
       let same : valuesOf kind front ≡ valuesOf kind s =
-          values-whole front (omega arith) ∙ ap (unpack (widths kind) (bytes kind)) (take-take (bytes kind) (bytes kind) s (omega arith)) ∙ sym (values-whole s h) in
+      values-whole front (omega arith) ∙ ap (unpack (widths kind) (bytes kind)) (take-take (bytes kind) (bytes kind) s (omega arith)) ∙ sym (values-whole s h) in
       ap (packed kind) (sym same) ∙ packed-values front l (bytes-take (bytes kind) s b)

@@ -1,7 +1,7 @@
 -- Document 01's case A as a packed table, computed from the definitions. Assumes nothing.
 use mathlib.Core.Path.{_≡_, refl}
 use mathlib.Core.List.{List, [], _∷_}
-use Prim.Native.Nat.{ℕ, _-_}
+use Prim.Native.Nat.{ℕ}
 use lib.ListN.{take, drop}
 use Rattle.logic.specs.Lists.{All}
 use Rattle.refusals.specs.declared.Refusal.the-variants.{WindowEnds}
@@ -12,7 +12,7 @@ use Rattle.fields.specs.Records.{packed, valuesOf}
 use Rattle.tables.specs.declared.packed.Grant.{Grant}
 use Rattle.tables.specs.Tables.{head, headOf, count, cycleOf, frameOf, valuesAt, grantAt, spareAt, grantsFrom, grantsOf, records, tableOf}
 use Rattle.tables.specs.Form.{headed, spared, formed, rises, test11, test12, formTests}
-use Rattle.tables.specs.Window.{test19, windowTests, before, edge}
+use Rattle.tables.specs.Window.{test19, windowTests, before, startingIn, edge}
 
 -- starts 0 (flow 1), 1 (flow 2), 3 (flow 3), 6 (flow 1, late 2)
 abbrev caseA : List Grant
@@ -52,3 +52,8 @@ windows =
 pub windows-A : All (λ w. (windowTests tableA (w .0) (w .1) ≡ w .2) × (edge (w .2) tableA (w .0) ≡ w .3) × (edge (w .2) tableA (w .1) ≡ w .4)) windows
 unfolding packed valuesOf head headOf count cycleOf frameOf valuesAt grantAt spareAt grantsFrom grantsOf records tableOf headed spared formed lowest against after rises test11 test12 formTests test19 windowTests before edge
 windows-A = ((refl, refl, refl), ((refl, refl, refl), ((refl, refl, refl), ((refl, refl, refl), ((refl, refl, refl), ((refl, refl, refl), tt))))))
+
+-- the grants that start in a window
+pub starting-A : (startingIn 1 6 caseA ≡ take 2 (drop 1 caseA)) × (startingIn 4 6 caseA ≡ [])
+unfolding startingIn
+starting-A = (refl, refl)

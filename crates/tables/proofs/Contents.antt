@@ -1,8 +1,8 @@
 -- A window's stretch holds the records of the grants that start in it and no other, and its answer is the only one.
 -- Assumes nothing.
-use mathlib.Core.Path.{_≡_, refl, sym, ap, ap₂, _∙_}
+use mathlib.Core.Path.{_≡_, refl, sym, ap, _∙_}
 use mathlib.Core.List.{List, [], _∷_}
-use Prim.Native.Nat.{ℕ, suc, _+_, _-_, _*_, _≤_, _<_}
+use Prim.Native.Nat.{ℕ, suc, _-_, _*_, _≤_, _<_}
 use native.Mathlib.Nat.{sub-zero, zero-add}
 use native.Mathlib.Omega.{arith}
 use lib.ListN.{getD, take, drop}
@@ -13,12 +13,12 @@ use Rattle.logic.proofs.Tests.{by-lt}
 use Rattle.refusals.specs.declared.Refusal.{Refusal}
 use Rattle.refusals.specs.declared.Refusal.the-variants.{NotRising}
 use Rattle.refusals.specs.declared.Checked.the-variants.{Passed, Refused}
-use Rattle.refusals.specs.Tests.{lowest, against, after}
+use Rattle.refusals.specs.Tests.{against, after}
 use Rattle.refusals.proofs.Lowest.{Pass, lowest-pass, against-after}
 use Rattle.fields.proofs.Runs.{run, drop-run, take-run}
 use Rattle.tables.specs.declared.packed.Grant.{Grant}
 use Rattle.tables.specs.Tables.{place, grantsOf, records}
-use Rattle.tables.specs.Form.{rises, test12, formed}
+use Rattle.tables.specs.Form.{rises, test12}
 use Rattle.tables.specs.Window.{windowTests, before, startingIn, edge, Stretch}
 use Rattle.tables.proofs.Forms.{is-formed}
 use Rattle.tables.proofs.Meaning.{written, length-written, records-run, records-again}
@@ -75,17 +75,17 @@ module _ (a b : ℕ) where
       let rest = in-window gs (rises-rest g gs h) in
       by-lt (g .start) a
       (λ l. by-lt (g .start) b
-        (λ m.
-          let e : suc (before b gs) - suc (before a gs) ≡ before b gs - before a gs = omega arith in
-          rw (lt-ltb (g .start) a l, lt-ltb (g .start) b m, lt-leb a (g .start) l, e) rest)
-        (λ m.
-          let e : 0 - suc (before a gs) ≡ 0 = omega arith in
-          rw (lt-ltb (g .start) a l, le-ltb (g .start) b m, lt-leb a (g .start) l, e) (sym (none-in g gs m h))))
+      (λ m.
+      let e : suc (before b gs) - suc (before a gs) ≡ before b gs - before a gs = omega arith in
+      rw (lt-ltb (g .start) a l, lt-ltb (g .start) b m, lt-leb a (g .start) l, e) rest)
+      (λ m.
+      let e : 0 - suc (before a gs) ≡ 0 = omega arith in
+      rw (lt-ltb (g .start) a l, le-ltb (g .start) b m, lt-leb a (g .start) l, e) (sym (none-in g gs m h))))
       (λ l. by-lt (g .start) b
-        (λ m.
-          let whole : take (before b gs) gs ≡ startingIn a b gs = rw (none-before g gs l h, sub-zero (before b gs)) at rest in
-          rw (le-ltb (g .start) a l, lt-ltb (g .start) b m, le-leb a (g .start) l, sub-zero (suc (before b gs)), whole))
-        (λ m. rw (le-ltb (g .start) a l, le-ltb (g .start) b m, le-leb a (g .start) l) (sym (none-in g gs m h))))
+      (λ m.
+      let whole : take (before b gs) gs ≡ startingIn a b gs = rw (none-before g gs l h, sub-zero (before b gs)) at rest in
+      rw (le-ltb (g .start) a l, lt-ltb (g .start) b m, le-leb a (g .start) l, sub-zero (suc (before b gs)), whole))
+      (λ m. rw (le-ltb (g .start) a l, le-ltb (g .start) b m, le-leb a (g .start) l) (sym (none-in g gs m h))))
 
   pub window-grants : (gs : List Grant) → test12 gs ≡ Passed → take (before b gs - before a gs) (drop (before a gs) gs) ≡ startingIn a b gs
   window-grants gs e = in-window gs (rises-all gs e)
@@ -100,7 +100,7 @@ module _ (t : List ℕ) (bytes : (i : ℕ) → getD t i 0 < 256) (a b : ℕ) (pa
       let w = lawful t a b passed in
       let behind : drop 8 t ≡ run written gs = sym (records-again t bytes (is-formed t (w .form))) ∙ records-run gs in
       let start : drop (place (before a gs)) t ≡ run written (drop (before a gs) gs) =
-          sym (drop-drop (5 * before a gs) 8 t) ∙ ap (λ (s : List ℕ). drop (5 * before a gs) s) behind ∙ drop-run 5 written length-written (before a gs) gs in
+      sym (drop-drop (5 * before a gs) 8 t) ∙ ap (λ (s : List ℕ). drop (5 * before a gs) s) behind ∙ drop-run 5 written length-written (before a gs) gs in
       let size : place (before b gs) - place (before a gs) ≡ 5 * (before b gs - before a gs) = omega arith in
       rw (start, size, take-run 5 written length-written (before b gs - before a gs) (drop (before a gs) gs), window-grants a b gs (w .rising))
       (sym (records-run (startingIn a b gs)))
@@ -114,7 +114,7 @@ module _ (s : RefT (List ℕ)) (a b : ℕ) where
   pub window-holds : (r : RefT (List ℕ)) → Answer r → ((i : ℕ) → getD (s .now) i 0 < 256) → windowTests (s .now) a b ≡ Passed
       → r .now ≡ records (startingIn a b (grantsOf (s .now)))
   window-holds r w bytes e =
-      rw (edge-passed _ (s .now) a e, edge-passed _ (s .now) b e) at (w .elements) ∙ window-records (s .now) bytes a b e
+      rw (edge-passed _ (s .now) a _ e refl, edge-passed _ (s .now) b _ e refl) at (w .elements) ∙ window-records (s .now) bytes a b e
 
   -- on refusal it is empty, at the table's front
   pub window-refused : (r : RefT (List ℕ)) (refusal : Refusal) → Answer r → windowTests (s .now) a b ≡ Refused refusal

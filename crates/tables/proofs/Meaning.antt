@@ -7,9 +7,9 @@ use native.Mathlib.Omega.{arith}
 use lib.Dec.{eqb, lit<}
 use lib.ListN.{length, getD, take, drop, length-append, length-drop, take-append-drop}
 use lib.Seq.{drop-at, drop-drop, getD-drop}
-use borrow.Author.Tests.{eq-eqb, eqb-true}
+use borrow.Author.Tests.{eqb-true}
 use Rattle.logic.specs.Lists.{All}
-use Rattle.logic.proofs.Tests.{and-both, both-and}
+use Rattle.logic.proofs.Tests.{and-both}
 use Rattle.fields.specs.declared.kind.Kind.the-variants.{TableHead, TableRecord}
 use Rattle.fields.specs.Packed.{Fit}
 use Rattle.fields.specs.Kinds.{widths}
@@ -76,7 +76,7 @@ spared-records t i [] h e = refl
 spared-records t i (g ∷ gs) h e =
     let values : valuesOf TableRecord (drop (place i) t) ≡ fieldsOf g = ap (valuesOf TableRecord) e ∙ read-back g (h .0) (run written gs) in
     let next : drop (place (suc i)) t ≡ run written gs =
-        sym (next-place t i) ∙ ap (λ (s : List ℕ). drop 5 s) e ∙ drop-at (written g) (run written gs) 5 (length-written g) in
+    sym (next-place t i) ∙ ap (λ (s : List ℕ). drop 5 s) e ∙ drop-at (written g) (run written gs) 5 (length-written g) in
     rw values (spared-records t (suc i) gs (h .1) next)
 
 -- what a packed table can hold: 1 to 1,024 grants whose fields fit, and a cycle and a frame of 16 bits

@@ -1,26 +1,22 @@
 -- A window of a table: where it stands, and that it holds the grants that start in it and no other. Assumes nothing.
-use mathlib.Core.Path.{_≡_, refl, sym, ap, _∙_}
-use mathlib.Core.Bool.{Bool, true, false, cond, _&&_}
+use mathlib.Core.Path.{_≡_}
+use mathlib.Core.Bool.{_&&_}
 use mathlib.Core.List.{List, [], _∷_}
-use Prim.Native.Nat.{ℕ, zero, suc, _+_, _-_, _*_, _≤_, _<_, zero-le, suc-le-suc}
-use native.Mathlib.Nat.{sub-zero}
+use Prim.Native.Nat.{ℕ, _≤_, _<_, zero-le, suc-le-suc}
 use native.Mathlib.Omega.{arith}
-use lib.Dec.{leb, ltb}
-use lib.ListN.{length, take, drop}
+use lib.Dec.{leb}
+use lib.ListN.{length}
 use borrow.Author.Tests.{le-leb, lt-leb, lt-ltb, le-ltb, leb-true}
-use Rattle.logic.specs.Lists.{All}
-use Rattle.logic.proofs.Tests.{by-lt, and-both, both-and}
+use Rattle.logic.proofs.Tests.{by-lt, and-both}
 use Rattle.refusals.specs.declared.Refusal.{Refusal}
-use Rattle.refusals.specs.declared.Refusal.the-variants.{TableForm, NotRising, WindowEnds}
+use Rattle.refusals.specs.declared.Refusal.the-variants.{TableForm, WindowEnds}
 use Rattle.refusals.specs.declared.Checked.{Checked}
 use Rattle.refusals.specs.declared.Checked.the-variants.{Passed, Refused}
-use Rattle.refusals.specs.Tests.{unless, lowest, against, after}
-use Rattle.refusals.proofs.Chains.{both-passed, unless-yes, unless-no, unless-passed}
-use Rattle.refusals.proofs.Lowest.{Pass, lowest-pass, against-after}
+use Rattle.refusals.proofs.Chains.{both-passed, unless-passed}
 use Rattle.tables.specs.declared.packed.Grant.{Grant}
-use Rattle.tables.specs.Tables.{cycleOf, count, place, grantsFrom, grantsOf}
-use Rattle.tables.specs.Form.{formed, rises, test11, test12, formTests}
-use Rattle.tables.specs.Window.{test19, windowTests, before, startingIn, edge}
+use Rattle.tables.specs.Tables.{cycleOf, place, grantsOf}
+use Rattle.tables.specs.Form.{formed, test11, test12, formTests}
+use Rattle.tables.specs.Window.{test19, windowTests, before, edge}
 use Rattle.tables.proofs.Walk.{length-grants}
 use Rattle.tables.proofs.Forms.{Formed, formed-is}
 
@@ -85,9 +81,9 @@ lawful-edges t a b w =
     (before-mono a b (grantsOf t) (w .ordered), omega (arith, length-grants t, w .form .count-le), omega (arith, length-grants t, w .form .exact))
 
 module _ (k : Checked) (t : List ℕ) (a : ℕ) where
-  pub edge-passed : k ≡ Passed → edge k t a ≡ place (before a (grantsOf t))
+  pub edge-passed : (i : ℕ) → k ≡ Passed → i ≡ before a (grantsOf t) → edge k t a ≡ place i
   unfolding edge
-  edge-passed e = rw e
+  edge-passed i e h = rw (e, h)
 
   pub edge-refused : (r : Refusal) → k ≡ Refused r → edge k t a ≡ 0
   unfolding edge

@@ -5,8 +5,6 @@ use native.Mathlib.Nat.{div-zero}
 use borrow.Author.Needs.{needs}
 use Rattle.lists.proofs.facts.times.Statement.{statement}
 use Rattle.lists.proofs.facts.times.Tie as tie
-use Rattle.lists.proofs.facts.times.Reads as reads
-use Rattle.lists.proofs.facts.times.Lts as lts
 
 returns : tie.Need-returns
 returns c = rw (c .if1 .taken) (sym (div-zero (c .before .args .cycle)))

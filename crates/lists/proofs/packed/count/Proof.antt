@@ -8,9 +8,6 @@ use Rattle.fields.specs.Records.{reading}
 use Rattle.lists.specs.Lists.{headOf, count}
 use Rattle.lists.proofs.packed.count.Statement.{statement}
 use Rattle.lists.proofs.packed.count.Tie as tie
-use Rattle.lists.proofs.packed.count.Reads as reads
-use Rattle.lists.proofs.packed.count.Lts as lts
-use Rattle.fields.proofs.read.Reads as read-reads
 
 read-requires : tie.Need-read-requires
 read-requires c κs = search needs

@@ -6,10 +6,6 @@ use Rattle.refusals.proofs.Chains.{refused-first, passed-first}
 use Rattle.tables.specs.Form.{formTests}
 use Rattle.tables.proofs.form.form_tests.Statement.{statement}
 use Rattle.tables.proofs.form.form_tests.Tie as tie
-use Rattle.tables.proofs.form.form_tests.Reads as reads
-use Rattle.tables.proofs.form.form_tests.Lts as lts
-use Rattle.tables.proofs.form.test_11.Reads as test-11-reads
-use Rattle.tables.proofs.form.test_12.Reads as test-12-reads
 
 test-11-requires : tie.Need-test-11-requires
 test-11-requires c κs = search needs

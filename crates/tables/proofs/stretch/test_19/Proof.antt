@@ -4,9 +4,6 @@ use borrow.Author.Needs.{needs}
 use Rattle.tables.proofs.Windows.{ends-crossed, ends-past, ends-good}
 use Rattle.tables.proofs.stretch.test_19.Statement.{statement}
 use Rattle.tables.proofs.stretch.test_19.Tie as tie
-use Rattle.tables.proofs.stretch.test_19.Reads as reads
-use Rattle.tables.proofs.stretch.test_19.Lts as lts
-use Rattle.tables.proofs.packed.cycle.Reads as cycle-reads
 
 returns : tie.Need-returns
 returns c =

@@ -7,14 +7,10 @@ use lib.ListN.{length}
 use borrow.Author.Needs.{needs}
 use Rattle.refusals.specs.declared.Checked.the-variants.{Passed}
 use Rattle.tables.specs.Tables.{place, grantsOf}
-use Rattle.tables.specs.Window.{windowTests, before, edge, Stretch}
+use Rattle.tables.specs.Window.{windowTests, before}
 use Rattle.tables.proofs.Windows.{lawful, lawful-edges, edge-passed, edge-refused}
 use Rattle.tables.proofs.stretch.window.Statement.{statement}
 use Rattle.tables.proofs.stretch.window.Tie as tie
-use Rattle.tables.proofs.stretch.window.Reads as reads
-use Rattle.tables.proofs.stretch.window.Lts as lts
-use Rattle.tables.proofs.stretch.grants_before.Reads as grants-before-reads
-use Rattle.tables.proofs.stretch.window_tests.Reads as window-tests-reads
 
 window-tests-requires : tie.Need-window-tests-requires
 window-tests-requires c κs = search needs
@@ -82,7 +78,7 @@ returns-2 c =
     let p = c .before .before .before in
     let a = p .before .before .before .before .args in
     let t = a .table .now in
-    rw (edge-passed _ t (a .a) (passed p), edge-passed _ t (a .b) (passed p), ← c .before .before .grants-before .ensures, ← c .before .grants-before2 .ensures)
+    rw (edge-passed _ t (a .a) _ (passed p) (c .before .before .grants-before .ensures), edge-passed _ t (a .b) _ (passed p) (c .before .grants-before2 .ensures))
     (record { elements = refl; block = refl; byte = refl })
 
 pub window-spec : {M : Type 1} → statement M

@@ -6,10 +6,6 @@ use Rattle.refusals.proofs.Chains.{refused-first, passed-first}
 use Rattle.tables.specs.Window.{windowTests}
 use Rattle.tables.proofs.stretch.window_tests.Statement.{statement}
 use Rattle.tables.proofs.stretch.window_tests.Tie as tie
-use Rattle.tables.proofs.stretch.window_tests.Reads as reads
-use Rattle.tables.proofs.stretch.window_tests.Lts as lts
-use Rattle.tables.proofs.form.form_tests.Reads as form-tests-reads
-use Rattle.tables.proofs.stretch.test_19.Reads as test-19-reads
 
 form-tests-requires : tie.Need-form-tests-requires
 form-tests-requires c κs = search needs
