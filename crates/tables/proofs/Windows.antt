@@ -1,4 +1,4 @@
--- A window of a table: where it stands, and that it holds the grants that start in it and no other. Assumes nothing.
+-- A window of a table: test 19, the grants before a start, and where the stretch stands. Assumes nothing.
 use mathlib.Core.Path.{_≡_}
 use mathlib.Core.Bool.{_&&_}
 use mathlib.Core.List.{List, [], _∷_}
@@ -53,6 +53,12 @@ before-mono a b (g ∷ gs) h =
 
 -- ---- what the tests leave
 
+pub form-passed : (t : List ℕ) → formTests t ≡ Passed → Formed t × (test12 (grantsOf t) ≡ Passed)
+unfolding formTests test11
+form-passed t e =
+    let both = both-passed (test11 t) (test12 (grantsOf t)) e in
+    (formed-is t (unless-passed (formed t) TableForm (both .0)), both .1)
+
 -- a table and a window that pass tests 11, 12 and 19
 pub record Lawful (t : List ℕ) (a b : ℕ) : Type 0 where
   pub form : Formed t
@@ -61,13 +67,13 @@ pub record Lawful (t : List ℕ) (a b : ℕ) : Type 0 where
   pub inside : b ≤ cycleOf t
 
 pub lawful : (t : List ℕ) (a b : ℕ) → windowTests t a b ≡ Passed → Lawful t a b
-unfolding windowTests formTests test11 test19
+unfolding windowTests test19
 lawful t a b e =
     let both = both-passed (formTests t) (test19 t a b) e in
-    let form = both-passed (test11 t) (test12 (grantsOf t)) (both .0) in
+    let form = form-passed t (both .0) in
     let ends = and-both (leb a b) (leb b (cycleOf t)) (unless-passed (leb a b && leb b (cycleOf t)) WindowEnds (both .1)) in
     record {
-      form = formed-is t (unless-passed (formed t) TableForm (form .0));
+      form = form .0;
       rising = form .1;
       ordered = leb-true a b (ends .0);
       inside = leb-true b (cycleOf t) (ends .1);
