@@ -2,7 +2,7 @@
 -- Assumes nothing.
 use mathlib.Core.Path.{_≡_, refl, sym, ap, _∙_}
 use mathlib.Core.List.{List, [], _∷_}
-use Prim.Native.Nat.{zero, ℕ, suc, _-_, _*_, _≤_, _<_}
+use Prim.Native.Nat.{ℕ, zero, suc, _-_, _*_, _≤_, _<_}
 use native.Mathlib.Nat.{sub-zero, zero-add, not-suc-le-zero, le-of-suc-le-suc}
 use native.Mathlib.Omega.{arith}
 use lib.ListN.{length, getD, take, drop}
@@ -31,6 +31,7 @@ abbrev RisesFrom : Grant → List Grant → Type 0
 RisesFrom p [] = Unit
 RisesFrom p (g ∷ gs) = (p .start < g .start) × RisesFrom g gs
 
+-- each grant starts after the one before it
 abbrev Rises : List Grant → Type 0
 Rises [] = Unit
 Rises (g ∷ gs) = RisesFrom g gs
@@ -68,27 +69,44 @@ module _ (a b : ℕ) where
       (λ s. rw (le-leb a (g .start) s, le-ltb (g .start) b (omega arith)) rest)
 
   -- the stretch of grants is those that start in the window
-  in-window : (gs : List Grant) → Rises gs → take (before b gs - before a gs) (drop (before a gs) gs) ≡ startingIn a b gs
+  abbrev Cut : List Grant → Type 0
+  Cut gs = take (before b gs - before a gs) (drop (before a gs) gs) ≡ startingIn a b gs
+
+  -- and is so with one grant more, wherever that starts
+  module _ (g : Grant) (gs : List Grant) (h : RisesFrom g gs) where
+    cut-before : g .start < a → g .start < b → Cut gs → Cut (g ∷ gs)
+    unfolding before startingIn
+    cut-before l m rest =
+        let e : suc (before b gs) - suc (before a gs) ≡ before b gs - before a gs = omega arith in
+        rw (lt-ltb (g .start) a l, lt-ltb (g .start) b m, lt-leb a (g .start) l, e) rest
+
+    cut-crossed : g .start < a → b ≤ g .start → Cut (g ∷ gs)
+    unfolding before startingIn
+    cut-crossed l m =
+        let e : 0 - suc (before a gs) ≡ 0 = omega arith in
+        rw (lt-ltb (g .start) a l, le-ltb (g .start) b m, lt-leb a (g .start) l, e) (sym (none-in g gs m h))
+
+    cut-inside : a ≤ g .start → g .start < b → Cut gs → Cut (g ∷ gs)
+    unfolding before startingIn
+    cut-inside l m rest =
+        let whole : take (before b gs) gs ≡ startingIn a b gs = rw (none-before g gs l h, sub-zero (before b gs)) at rest in
+        rw (le-ltb (g .start) a l, lt-ltb (g .start) b m, le-leb a (g .start) l, sub-zero (suc (before b gs)), whole)
+
+    cut-behind : a ≤ g .start → b ≤ g .start → Cut (g ∷ gs)
+    unfolding before startingIn
+    cut-behind l m = rw (le-ltb (g .start) a l, le-ltb (g .start) b m, le-leb a (g .start) l) (sym (none-in g gs m h))
+
+  cut : (gs : List Grant) → Rises gs → Cut gs
   unfolding before startingIn
-  in-window [] h = refl
-  in-window (g ∷ gs) h =
-      let rest = in-window gs (rises-rest g gs h) in
+  cut [] h = refl
+  cut (g ∷ gs) h =
+      let rest = cut gs (rises-rest g gs h) in
       by-lt (g .start) a
-      (λ l. by-lt (g .start) b
-      (λ m.
-      let e : suc (before b gs) - suc (before a gs) ≡ before b gs - before a gs = omega arith in
-      rw (lt-ltb (g .start) a l, lt-ltb (g .start) b m, lt-leb a (g .start) l, e) rest)
-      (λ m.
-      let e : 0 - suc (before a gs) ≡ 0 = omega arith in
-      rw (lt-ltb (g .start) a l, le-ltb (g .start) b m, lt-leb a (g .start) l, e) (sym (none-in g gs m h))))
-      (λ l. by-lt (g .start) b
-      (λ m.
-      let whole : take (before b gs) gs ≡ startingIn a b gs = rw (none-before g gs l h, sub-zero (before b gs)) at rest in
-      rw (le-ltb (g .start) a l, lt-ltb (g .start) b m, le-leb a (g .start) l, sub-zero (suc (before b gs)), whole))
-      (λ m. rw (le-ltb (g .start) a l, le-ltb (g .start) b m, le-leb a (g .start) l) (sym (none-in g gs m h))))
+      (λ l. by-lt (g .start) b (λ m. cut-before g gs h l m rest) (cut-crossed g gs h l))
+      (λ l. by-lt (g .start) b (λ m. cut-inside g gs h l m rest) (cut-behind g gs h l))
 
   pub window-grants : (gs : List Grant) → test12 gs ≡ Passed → take (before b gs - before a gs) (drop (before a gs) gs) ≡ startingIn a b gs
-  window-grants gs e = in-window gs (rises-all gs e)
+  window-grants gs e = cut gs (rises-all gs e)
 
 -- ---- where an end of the stretch stands
 

@@ -162,25 +162,25 @@ module _ (t : List ℕ) (b : (i : ℕ) → getD t i 0 < 256) where
       (ap (packed TableRecord) fields ∙ packed-front TableRecord s whole (bytes-from (place i)), rw (next-place t i) (again (suc i) n (omega arith) (both .1)))
 
   module _ (e : formed t ≡ true) where
-    f : Formed t
-    f = formed-is t e
+    form : Formed t
+    form = formed-is t e
 
     head-fields : headFields (count t) (cycleOf t) (frameOf t) ≡ headOf t
     unfolding count cycleOf frameOf headOf
     head-fields =
-        let is = headed-is t (f .head) in
-        rw (is .0, is .1, is .2) at (six-values (headOf t) (sym (fit-length (widths TableHead) (headOf t) (values-fit TableHead t (f .long)))))
+        let is = headed-is t (form .head) in
+        rw (is .0, is .1, is .2) at (six-values (headOf t) (sym (fit-length (widths TableHead) (headOf t) (values-fit TableHead t (form .long)))))
 
     head-again : head (length (grantsOf t)) (cycleOf t) (frameOf t) ≡ take 8 t
     unfolding head headOf
-    head-again = rw (length-grants t, head-fields) (packed-front TableHead t (f .long) b)
+    head-again = rw (length-grants t, head-fields) (packed-front TableHead t (form .long) b)
 
     pub records-again : records (grantsOf t) ≡ drop 8 t
     unfolding grantsOf
     records-again =
         records-run (grantsOf t)
         ∙ ap (run written) (grants-entries t 0 (count t))
-        ∙ run-entries 5 written length-written grantOf (count t) (drop 8 t) (simp length-drop (omega (arith, f .exact))) (again 0 (count t) (omega (arith, f .exact)) (f .zeros))
+        ∙ run-entries 5 written length-written grantOf (count t) (drop 8 t) (simp length-drop (omega (arith, form .exact))) (again 0 (count t) (omega (arith, form .exact)) (form .zeros))
 
     pub table-grants : tableOf (cycleOf t) (frameOf t) (grantsOf t) ≡ t
     unfolding tableOf
