@@ -1,8 +1,8 @@
--- A window of a table: where it stands, and that it holds the grants that start in it and no other. Assumes nothing.
-use mathlib.Core.Path.{_≡_, refl, ap}
+-- A window of a table: test 19, the grants before a start, and where the stretch stands. Assumes nothing.
+use mathlib.Core.Path.{_≡_}
 use mathlib.Core.Bool.{_&&_}
 use mathlib.Core.List.{List, [], _∷_}
-use Prim.Native.Nat.{ℕ, zero, suc, _≤_, _<_, zero-le, suc-le-suc}
+use Prim.Native.Nat.{ℕ, _≤_, _<_, zero-le, suc-le-suc}
 use native.Mathlib.Omega.{arith}
 use lib.Dec.{leb}
 use lib.ListN.{length}
@@ -14,9 +14,10 @@ use Rattle.refusals.specs.declared.Checked.{Checked}
 use Rattle.refusals.specs.declared.Checked.the-variants.{Passed, Refused}
 use Rattle.refusals.proofs.Chains.{both-passed, unless-passed}
 use Rattle.tables.specs.declared.packed.Grant.{Grant}
-use Rattle.tables.specs.Tables.{cycleOf, count, place, grantsFrom, grantsOf}
+use Rattle.tables.specs.Tables.{cycleOf, place, grantsOf}
 use Rattle.tables.specs.Form.{formed, test11, test12, formTests}
 use Rattle.tables.specs.Window.{test19, windowTests, before, edge}
+use Rattle.tables.proofs.Walk.{length-grants}
 use Rattle.tables.proofs.Forms.{Formed, formed-is}
 
 -- ---- test 19
@@ -50,12 +51,13 @@ before-mono a b (g ∷ gs) h =
     (λ l. rw (lt-ltb (g .start) a l, lt-ltb (g .start) b (omega arith)) (suc-le-suc (before-mono a b gs h)))
     (λ l. rw (le-ltb (g .start) a l) zero-le)
 
-pub length-grants-from : (t : List ℕ) (i n : ℕ) → length (grantsFrom t i n) ≡ n
-unfolding grantsFrom
-length-grants-from t i zero = refl
-length-grants-from t i (suc n) = ap suc (length-grants-from t (suc i) n)
-
 -- ---- what the tests leave
+
+pub form-passed : (t : List ℕ) → formTests t ≡ Passed → Formed t × (test12 (grantsOf t) ≡ Passed)
+unfolding formTests test11
+form-passed t e =
+    let both = both-passed (test11 t) (test12 (grantsOf t)) e in
+    (formed-is t (unless-passed (formed t) TableForm (both .0)), both .1)
 
 -- a table and a window that pass tests 11, 12 and 19
 pub record Lawful (t : List ℕ) (a b : ℕ) : Type 0 where
@@ -65,13 +67,13 @@ pub record Lawful (t : List ℕ) (a b : ℕ) : Type 0 where
   pub inside : b ≤ cycleOf t
 
 pub lawful : (t : List ℕ) (a b : ℕ) → windowTests t a b ≡ Passed → Lawful t a b
-unfolding windowTests formTests test11 test19
+unfolding windowTests test19
 lawful t a b e =
     let both = both-passed (formTests t) (test19 t a b) e in
-    let form = both-passed (test11 t) (test12 (grantsOf t)) (both .0) in
+    let form = form-passed t (both .0) in
     let ends = and-both (leb a b) (leb b (cycleOf t)) (unless-passed (leb a b && leb b (cycleOf t)) WindowEnds (both .1)) in
     record {
-      form = formed-is t (unless-passed (formed t) TableForm (form .0));
+      form = form .0;
       rising = form .1;
       ordered = leb-true a b (ends .0);
       inside = leb-true b (cycleOf t) (ends .1);
@@ -80,16 +82,14 @@ lawful t a b e =
 -- the stretch stands in order inside the table
 pub lawful-edges : (t : List ℕ) (a b : ℕ) → Lawful t a b
     → (before a (grantsOf t) ≤ before b (grantsOf t)) × (before b (grantsOf t) ≤ 1024) × (place (before b (grantsOf t)) ≤ length t)
-unfolding grantsOf
 lawful-edges t a b w =
     let le = before-le b (grantsOf t) in
-    let len : length (grantsOf t) ≡ count t = length-grants-from t 0 (count t) in
-    (before-mono a b (grantsOf t) (w .ordered), omega (arith, w .form .count-le), omega (arith, w .form .exact))
+    (before-mono a b (grantsOf t) (w .ordered), omega (arith, length-grants t, w .form .count-le), omega (arith, length-grants t, w .form .exact))
 
 module _ (k : Checked) (t : List ℕ) (a : ℕ) where
-  pub edge-passed : k ≡ Passed → edge k t a ≡ place (before a (grantsOf t))
+  pub edge-passed : (i : ℕ) → k ≡ Passed → i ≡ before a (grantsOf t) → edge k t a ≡ place i
   unfolding edge
-  edge-passed e = rw e
+  edge-passed i e h = rw (e, h)
 
   pub edge-refused : (r : Refusal) → k ≡ Refused r → edge k t a ≡ 0
   unfolding edge

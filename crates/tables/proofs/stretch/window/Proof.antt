@@ -78,7 +78,7 @@ returns-2 c =
     let p = c .before .before .before in
     let a = p .before .before .before .before .args in
     let t = a .table .now in
-    rw (edge-passed _ t (a .a) (passed p), edge-passed _ t (a .b) (passed p), ← c .before .before .grants-before .ensures, ← c .before .grants-before2 .ensures)
+    rw (edge-passed _ t (a .a) _ (passed p) (c .before .before .grants-before .ensures), edge-passed _ t (a .b) _ (passed p) (c .before .grants-before2 .ensures))
     (record { elements = refl; block = refl; byte = refl })
 
 pub window-spec : {M : Type 1} → statement M
