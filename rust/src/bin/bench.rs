@@ -1,0 +1,110 @@
+//! Nanoseconds for each call of the base and of the library, and their ratio.
+
+use harness::base::{self, Refusal};
+use harness::{library, samples};
+use std::hint::black_box;
+use std::time::{Duration, Instant};
+
+/// Runs of each measurement; their median is printed.
+const RUNS: usize = 15;
+/// The least time of one run.
+const RUN_TIME: Duration = Duration::from_millis(10);
+
+fn main() {
+    println!("Median of {RUNS} runs after a warm-up. A room is made once and not cleared between calls, so each call");
+    println!("writes over the same bytes that it wrote before; no time of clearing or allocating is in the numbers.");
+    println!();
+    println!("{:62} {:>10} {:>10} {:>7}", "", "base ns", "library ns", "ratio");
+    for (name, flows) in [
+        ("case A, 3 flows, 4 grants", samples::CASE_A.to_vec()),
+        ("128 flows over 256 frames, long pushes", samples::long_pushes()),
+        ("8 flows, 1,024 grants", samples::most_grants()),
+    ] {
+        let flows = samples::numbered(&flows);
+        let (list, sheet) = (samples::list(&flows), samples::sheet(&flows));
+        let mut table = vec![0; base::LONGEST_TABLE];
+        let length = base::plan(&list, &mut table).expect("the list can be planned");
+        table.truncate(length);
+        let cycle = u64::from(u16::from_be_bytes([table[4], table[5]]));
+
+        writing(&format!("plan: {name}"), &list, base::LONGEST_TABLE, base::plan, library::plan);
+        compare(
+            &format!("check: {name}"),
+            || base::check(black_box(&list), black_box(&table)),
+            || library::check(black_box(&list), black_box(&table)),
+        );
+        compare(
+            &format!("window, second quarter: {name}"),
+            || base::window(black_box(&table), cycle / 4, cycle / 2),
+            || library::window(black_box(&table), cycle / 4, cycle / 2),
+        );
+        sheets(name, &list, &sheet);
+    }
+    let longest = samples::longest_sheet();
+    sheets("128 lines, four digits everywhere", &samples::list(&longest), &samples::sheet(&longest));
+}
+
+/// A sheet and its list, both ways.
+fn sheets(name: &str, list: &[u8], sheet: &[u8]) {
+    let (to_list, to_sheet) = (format!("sheet to list: {name}"), format!("list to sheet: {name}"));
+    writing(&to_list, sheet, base::LONGEST_LIST, base::list_from_sheet, library::list_from_sheet);
+    writing(&to_sheet, list, base::LONGEST_SHEET, base::sheet_from_list, library::sheet_from_list);
+}
+
+/// Compares an operation that reads one byte string and writes a room.
+fn writing(
+    name: &str,
+    input: &[u8],
+    room: usize,
+    ours: fn(&[u8], &mut [u8]) -> Result<usize, Refusal>,
+    theirs: fn(&[u8], &mut [u8]) -> Result<usize, Refusal>,
+) {
+    let (mut our_room, mut their_room) = (vec![0; room], vec![0; room]);
+    compare(
+        name,
+        || ours(black_box(input), black_box(&mut our_room)),
+        || theirs(black_box(input), black_box(&mut their_room)),
+    );
+    assert!(our_room == their_room, "{name}: the rooms differ");
+}
+
+/// Prints the time of both calls, which must be done and answer the same.
+fn compare<T: PartialEq + std::fmt::Debug>(
+    name: &str,
+    mut ours: impl FnMut() -> Result<T, Refusal>,
+    mut theirs: impl FnMut() -> Result<T, Refusal>,
+) {
+    let answer = ours();
+    assert!(answer.is_ok() && answer == theirs(), "{name}: {answer:?} and {:?}", theirs());
+    let (our_calls, their_calls) = (calls_in_a_run(&mut ours), calls_in_a_run(&mut theirs));
+    // Turn about, so that a disturbance from outside meets both.
+    let mut times = [[0.0; RUNS]; 2];
+    for run in 0..RUNS {
+        times[0][run] = nanoseconds(our_calls, &mut ours);
+        times[1][run] = nanoseconds(their_calls, &mut theirs);
+    }
+    let [our_time, their_time] = times.map(|mut runs| {
+        runs.sort_by(f64::total_cmp);
+        runs[RUNS / 2]
+    });
+    println!("{name:62} {our_time:>10.0} {their_time:>10.0} {:>7.2}", their_time / our_time);
+}
+
+/// So many calls as fill a run. The calls made to find out are the warm-up.
+fn calls_in_a_run<T>(call: &mut impl FnMut() -> T) -> u32 {
+    let (start, mut calls) = (Instant::now(), 0);
+    while start.elapsed() < 2 * RUN_TIME {
+        black_box(call());
+        calls += 1;
+    }
+    calls / 2 + 1
+}
+
+/// The time of one call over a run.
+fn nanoseconds<T>(calls: u32, call: &mut impl FnMut() -> T) -> f64 {
+    let start = Instant::now();
+    for _ in 0..calls {
+        black_box(call());
+    }
+    start.elapsed().as_nanos() as f64 / f64::from(calls)
+}
