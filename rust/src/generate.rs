@@ -159,6 +159,30 @@ impl Random {
 
     /// Flows that keep the rules of their fields, mostly related and mostly not oversold.
     fn flows(&mut self) -> Vec<Fields> {
+        let mut flows = if self.one_in(20) { self.flows_near_1024_grants() } else { self.flows_by_load() };
+        self.arrange(&mut flows);
+        flows
+    }
+
+    /// Flows of size 1 with 1,023 to 1,026 grants together, if 128 flows will do.
+    fn flows_near_1024_grants(&mut self) -> Vec<Fields> {
+        let intervals = self.intervals();
+        let cycle = intervals[intervals.len() - 1];
+        let mut grants = self.between(1023, 1026);
+        let tightness = self.below(6);
+        let mut flows = Vec::new();
+        while grants > 0 && flows.len() < 128 {
+            // Every interval once, so that frame and cycle are there; then what takes the most grants.
+            let most = intervals.iter().copied().find(|&interval| cycle / interval <= grants).unwrap_or(cycle);
+            let interval = intervals.get(flows.len()).copied().unwrap_or(most);
+            grants = grants.saturating_sub(cycle / interval);
+            flows.push([flows.len() as u32 + 1, 1, interval, self.jitter(tightness, interval)]);
+        }
+        flows
+    }
+
+    /// Flows that come to a load of some part of the cycle.
+    fn flows_by_load(&mut self) -> Vec<Fields> {
         let intervals = self.intervals();
         let (frame, cycle) = (intervals[0], intervals[intervals.len() - 1]);
         let most = self.pick(&[1, 2, 3, 4, 6, 8, 12, 24, 48, 128]);
@@ -194,7 +218,6 @@ impl Random {
             grants = grants.saturating_sub(times);
             flows.push([index + 1, size, interval, self.jitter(tightness, interval)]);
         }
-        self.arrange(&mut flows);
         flows
     }
 

@@ -9,7 +9,7 @@ fn list(flows: &[Flow]) -> Vec<u8> {
 }
 
 /// The grants of the plan, each as start, flow and late.
-fn plan(flows: &[Flow]) -> Result<Vec<[u16; 3]>, (u32, u64)> {
+fn plan(flows: &[Flow]) -> Result<Vec<[u32; 3]>, (u32, u64)> {
     let mut room = [0xA5; base::LONGEST_TABLE];
     let answer = base::plan(&list(flows), &mut room);
     if answer.is_err() {

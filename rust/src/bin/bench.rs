@@ -78,16 +78,15 @@ fn compare<T: PartialEq + std::fmt::Debug>(
     assert!(answer.is_ok() && answer == theirs(), "{name}: {answer:?} and {:?}", theirs());
     let (our_calls, their_calls) = (calls_in_a_run(&mut ours), calls_in_a_run(&mut theirs));
     // Turn about, so that a disturbance from outside meets both.
-    let mut times = [[0.0; RUNS]; 2];
-    for run in 0..RUNS {
-        times[0][run] = nanoseconds(our_calls, &mut ours);
-        times[1][run] = nanoseconds(their_calls, &mut theirs);
-    }
-    let [our_time, their_time] = times.map(|mut runs| {
-        runs.sort_by(f64::total_cmp);
-        runs[RUNS / 2]
-    });
+    let times: [_; RUNS] =
+        std::array::from_fn(|_| (nanoseconds(our_calls, &mut ours), nanoseconds(their_calls, &mut theirs)));
+    let (our_time, their_time) = (median(times.map(|both| both.0)), median(times.map(|both| both.1)));
     println!("{name:62} {our_time:>10.0} {their_time:>10.0} {:>7.2}", their_time / our_time);
+}
+
+fn median(mut times: [f64; RUNS]) -> f64 {
+    times.sort_by(f64::total_cmp);
+    times[RUNS / 2]
 }
 
 /// So many calls as fill a run. The calls made to find out are the warm-up.
