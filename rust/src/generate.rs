@@ -159,7 +159,11 @@ impl Random {
 
     /// Flows that keep the rules of their fields, mostly related and mostly not oversold.
     fn flows(&mut self) -> Vec<Fields> {
-        let mut flows = if self.one_in(20) { self.flows_near_1024_grants() } else { self.flows_by_load() };
+        let mut flows = match self.below(20) {
+            0 => self.flows_near_1024_grants(),
+            1..5 => self.flows_that_push(),
+            _ => self.flows_by_load(),
+        };
         self.arrange(&mut flows);
         flows
     }
@@ -169,14 +173,40 @@ impl Random {
         let intervals = self.intervals();
         let cycle = intervals[intervals.len() - 1];
         let mut grants = self.between(1023, 1026);
-        let tightness = self.below(6);
+        let tightness = self.below(8);
         let mut flows = Vec::new();
         while grants > 0 && flows.len() < 128 {
             // Every interval once, so that frame and cycle are there; then what takes the most grants.
             let most = intervals.iter().copied().find(|&interval| cycle / interval <= grants).unwrap_or(cycle);
             let interval = intervals.get(flows.len()).copied().unwrap_or(most);
             grants = grants.saturating_sub(cycle / interval);
-            flows.push([flows.len() as u32 + 1, 1, interval, self.jitter(tightness, interval)]);
+            flows.push([
+                flows.len() as u32 + 1,
+                1,
+                interval,
+                self.jitter(tightness, interval, interval == intervals[0]),
+            ]);
+        }
+        flows
+    }
+
+    /// Flows of sizes about the frame over a short one that can be pushed a little: some fit only a later frame, and
+    /// smaller ones then push them from an earlier one.
+    fn flows_that_push(&mut self) -> Vec<Fields> {
+        let frame = self.between(4, 20);
+        let middle = frame * self.between(2, 8);
+        let cycle = middle * self.pick(&[1, 1, 2, 3, 8, 16]);
+        let mut flows = vec![[1, self.between(1, frame / 4), frame, self.between(1, frame / 3)]];
+        let mut slots = (cycle - cycle / frame * flows[0][SIZE]) * self.between(60, 100) / 100;
+        let most = self.between(2, 127);
+        for number in 2..2 + most {
+            let interval = self.pick(&[middle, cycle, cycle]);
+            let size = self.between(1, frame + 2).min(slots / (cycle / interval));
+            if size == 0 {
+                break;
+            }
+            slots -= size * (cycle / interval);
+            flows.push([number, size, interval, self.between(0, 2)]);
         }
         flows
     }
@@ -190,7 +220,7 @@ impl Random {
         let mut slots = cycle * self.pick(&[40, 70, 90, 95, 100, 100, 100, 100]) / 100;
         let oversold = self.one_in(15);
         let mut grants = if self.one_in(30) { 1100 } else { 1024 };
-        let tightness = self.below(6);
+        let tightness = self.below(8);
         let mut flows = Vec::new();
         for index in 0..count {
             let mut interval = match index {
@@ -216,21 +246,25 @@ impl Random {
             };
             slots = slots.saturating_sub(size * times);
             grants = grants.saturating_sub(times);
-            flows.push([index + 1, size, interval, self.jitter(tightness, interval)]);
+            flows.push([index + 1, size, interval, self.jitter(tightness, interval, interval == intervals[0])]);
         }
         flows
     }
 
-    fn jitter(&mut self, tightness: usize, interval: u32) -> u32 {
+    /// A jitter for a flow of this interval: none, the most, little, any, the shortest interval's free and the others'
+    /// tight, or any of these.
+    fn jitter(&mut self, tightness: usize, interval: u32, shortest: bool) -> u32 {
         match tightness {
             0 => 0,
             1 => interval - 1,
             2 => self.between(0, 3.min(interval - 1)),
             3 => self.between(0, (interval - 1) / 4),
             4 => self.between(0, interval - 1),
+            5 | 6 if shortest => self.between((interval - 1) / 2, interval - 1),
+            5 | 6 => self.between(0, 1.min(interval - 1)),
             _ => {
                 let tightness = self.below(5);
-                self.jitter(tightness, interval)
+                self.jitter(tightness, interval, shortest)
             }
         }
     }

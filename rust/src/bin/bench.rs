@@ -6,9 +6,9 @@ use std::hint::black_box;
 use std::time::{Duration, Instant};
 
 /// Runs of each measurement; their median is printed.
-const RUNS: usize = 15;
+const RUNS: usize = 51;
 /// The least time of one run.
-const RUN_TIME: Duration = Duration::from_millis(10);
+const RUN_TIME: Duration = Duration::from_millis(2);
 
 fn main() {
     println!("Median of {RUNS} runs after a warm-up. A room is made once and not cleared between calls, so each call");
