@@ -6,9 +6,11 @@ use std::hint::black_box;
 use std::time::{Duration, Instant};
 
 /// Runs of each measurement; their median is printed.
-const RUNS: usize = 51;
-/// The least time of one run.
-const RUN_TIME: Duration = Duration::from_millis(2);
+const RUNS: usize = 301;
+/// The time of one run, about: so short that on a busy machine most runs are not interrupted.
+const RUN_TIME: Duration = Duration::from_micros(200);
+/// The time of the warm-up.
+const WARM_UP: Duration = Duration::from_millis(20);
 
 fn main() {
     println!("Median of {RUNS} runs after a warm-up. A room is made once and not cleared between calls, so each call");
@@ -89,14 +91,16 @@ fn median(mut times: [f64; RUNS]) -> f64 {
     times[RUNS / 2]
 }
 
-/// So many calls as fill a run. The calls made to find out are the warm-up.
+/// Warms up; answers how many calls fill a run.
 fn calls_in_a_run<T>(call: &mut impl FnMut() -> T) -> u32 {
-    let (start, mut calls) = (Instant::now(), 0);
-    while start.elapsed() < 2 * RUN_TIME {
+    let start = Instant::now();
+    let mut least = WARM_UP;
+    while start.elapsed() < WARM_UP {
+        let before = Instant::now();
         black_box(call());
-        calls += 1;
+        least = least.min(before.elapsed());
     }
-    calls / 2 + 1
+    (RUN_TIME.as_nanos() / least.as_nanos().max(1)) as u32 + 1
 }
 
 /// The time of one call over a run.
