@@ -14,7 +14,8 @@ use Rattle.refusals.specs.declared.Refusal.{Refusal}
 use Rattle.refusals.specs.declared.Refusal.the-variants.{NotRising}
 use Rattle.refusals.specs.declared.Checked.the-variants.{Passed, Refused}
 use Rattle.refusals.specs.Tests.{against, after}
-use Rattle.refusals.proofs.Lowest.{Pass, lowest-pass, against-after}
+use Rattle.refusals.proofs.Lowest.{Pass, lowest-pass}
+use Rattle.refusals.proofs.Walks.{against-after}
 use Rattle.fields.proofs.Runs.{run, drop-run, take-run}
 use Rattle.tables.specs.declared.packed.Grant.{Grant}
 use Rattle.tables.specs.Tables.{place, grantsOf, records}
