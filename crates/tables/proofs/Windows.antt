@@ -1,5 +1,5 @@
 -- A window of a table: test 19, the grants before a start, and where the stretch stands. Assumes nothing.
-use mathlib.Core.Path.{_≡_}
+use mathlib.Core.Path.{_≡_, refl, ap}
 use mathlib.Core.Bool.{_&&_}
 use mathlib.Core.List.{List, [], _∷_}
 use Prim.Native.Nat.{ℕ, _≤_, _<_, zero-le, suc-le-suc}
@@ -16,7 +16,8 @@ use Rattle.refusals.proofs.Chains.{both-passed, unless-passed}
 use Rattle.tables.specs.declared.packed.Grant.{Grant}
 use Rattle.tables.specs.Tables.{cycleOf, place, grantsOf}
 use Rattle.tables.specs.Form.{formed, test11, test12, formTests}
-use Rattle.tables.specs.Window.{test19, windowTests, before, edge}
+use Rattle.tables.specs.declared.stretch.Edges.the-variants.{Bytes, Refused as Stopped}
+use Rattle.tables.specs.Window.{test19, windowTests, before, edge, edgesIf, edgesOf}
 use Rattle.tables.proofs.Walk.{length-grants}
 use Rattle.tables.proofs.Forms.{Formed, formed-is}
 
@@ -94,3 +95,35 @@ module _ (k : Checked) (t : List ℕ) (a : ℕ) where
   pub edge-refused : (r : Refusal) → k ≡ Refused r → edge k t a ≡ 0
   unfolding edge
   edge-refused r e = rw e
+
+-- what the code finds: the tests' refusal, or as many bytes as the grants before either end take
+module _ (t : List ℕ) (a b : ℕ) where
+  pub edges-refused : (r : Refusal) → windowTests t a b ≡ Refused r → Stopped r ≡ edgesOf t a b
+  unfolding edgesOf
+  edges-refused r e = rw e
+
+  pub edges-passed : (i j : ℕ) → windowTests t a b ≡ Passed → i ≡ before a (grantsOf t) → j ≡ before b (grantsOf t) → Bytes (place i) (place j) ≡ edgesOf t a b
+  unfolding edgesOf edge
+  edges-passed i j e p q = rw (e, p, q)
+
+  -- and what it says
+  pub refused-edges : (r : Refusal) → edgesOf t a b ≡ Stopped r → windowTests t a b ≡ Refused r
+  unfolding edgesOf
+  refused-edges r e = go (windowTests t a b) e
+    where
+      go : (k : Checked) → edgesIf k t a b ≡ Stopped r → k ≡ Refused r
+      go Passed q = let z : _≡_ {A = ℕ} 0 1 = cc in absurd (omega arith)
+      go (Refused s) q = let z : s ≡ r = cc in ap (λ (x : Refusal). Refused x) z
+
+  pub passed-edges : (i j : ℕ) → edgesOf t a b ≡ Bytes i j → let k = windowTests t a b in (k ≡ Passed) × (i ≡ edge k t a) × (j ≡ edge k t b)
+  unfolding edgesOf
+  passed-edges i j e = go (windowTests t a b) e
+    where
+      go : (k : Checked) → edgesIf k t a b ≡ Bytes i j → (k ≡ Passed) × (i ≡ edge k t a) × (j ≡ edge k t b)
+      go Passed q = (refl, (cc), (cc))
+      go (Refused s) q = let z : _≡_ {A = ℕ} 0 1 = cc in absurd (omega arith)
+
+  -- the edges are in order and inside the table
+  pub edges-inside : let k = windowTests t a b in k ≡ Passed → (edge k t a ≤ edge k t b) × (edge k t b ≤ length t)
+  unfolding edge
+  edges-inside e = let h = lawful-edges t a b (lawful t a b e) in rw e (omega arith, h .2)
