@@ -17,14 +17,14 @@ use Rattle.tables.specs.declared.packed.Grant.{Grant}
 use Rattle.law.specs.Check.{known, look, to}
 
 -- 1 for the number, 0 for any other
-unfoldable mark : ℕ → ℕ → ℕ
+unfoldable pub mark : ℕ → ℕ → ℕ
 mark x y = elim (eqb x y) [ true ↦ 1 | false ↦ 0 ]
 
-mark-same : (x y : ℕ) → x ≡ y → mark x y ≡ 1
+pub mark-same : (x y : ℕ) → x ≡ y → mark x y ≡ 1
 unfolding mark
 mark-same x y e = rw (eq-eqb x y e, mark)
 
-mark-other : (x y : ℕ) → (x ≡ y → ⊥) → mark x y ≡ 0
+pub mark-other : (x y : ℕ) → (x ≡ y → ⊥) → mark x y ≡ 0
 unfolding mark
 mark-other x y e = rw (ne-eqb x y e, mark)
 
@@ -35,7 +35,7 @@ to-length x r rs = by-test (eqb (r .flow) x) (λ e. rw (e, to, mark) (omega arit
 
 module _ (v : Flow → ℕ) where
   -- a known number is that of one flow
-  look-sum : (fs : List Flow) → Distinct fs → (x : ℕ) → known fs x ≡ true → sum (λ f. v f * mark x (f .number)) fs ≡ v (look fs x)
+  pub look-sum : (fs : List Flow) → Distinct fs → (x : ℕ) → known fs x ≡ true → sum (λ f. v f * mark x (f .number)) fs ≡ v (look fs x)
   unfolding sum known look
   look-sum [] d x k = true-not-false (sym k)
   look-sum (f ∷ fs) d x k =

@@ -1,5 +1,5 @@
 -- The flow of a number. Assumes nothing.
-use mathlib.Core.Path.{_≡_, refl, sym, ap}
+use mathlib.Core.Path.{_≡_, refl, sym, ap, _∙_}
 use mathlib.Core.Bool.{true, false}
 use mathlib.Core.List.{List, [], _∷_, List·Memᴰ·head, List·Memᴰ·tail, List·Memᴰ·not-nil}
 use Prim.Native.Nat.{ℕ, _<_}
@@ -22,6 +22,14 @@ known-mem (f ∷ fs) x h =
     by-test (eqb (f .number) x)
     (λ e. rw (e, look) (List·Memᴰ·head refl, eqb-true (f .number) x e))
     (λ e. let ih = known-mem fs x (rw (e, known) at h) in rw (e, look) (List·Memᴰ·tail (ih .0), ih .1))
+
+pub mem-known : (fs : List Flow) (f : Flow) → Mem f fs → known fs (f .number) ≡ true
+unfolding known
+mem-known [] f m = absurd (List·Memᴰ·not-nil m)
+mem-known (g ∷ fs) f m =
+    by-test (eqb (g .number) (f .number))
+    (λ e. rw (e, known))
+    (λ e. rw (e, known) (by-mem m (λ q. true-not-false (sym (eq-eqb (g .number) (f .number) (ap (λ (y : Flow). y .number) (sym q))) ∙ e)) (λ k. mem-known fs f k)))
 
 -- a flow of the list is the flow of its number
 pub look-mem : (fs : List Flow) → Distinct fs → (f : Flow) → Mem f fs → look fs (f .number) ≡ f

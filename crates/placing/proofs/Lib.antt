@@ -1,1 +1,17 @@
 pub mod Cases
+pub mod Overhangs
+pub mod Placed
+pub mod Groups
+pub mod Layouts
+pub mod Ended
+pub mod Nominals
+pub mod Tables
+pub mod Windows
+pub mod Standing
+pub mod Passes
+pub mod Room
+pub mod Filled
+pub mod Coming
+pub mod Always
+pub mod First
+pub mod Sanity
