@@ -1,5 +1,5 @@
 -- A line is read exactly where it is a line: what the reader takes is what document 01 says, and nothing else. Assumes nothing.
-use mathlib.Core.Path.{_≡_, refl, sym, ap, _∙_}
+use mathlib.Core.Path.{_≡_, refl, sym, ap, ap₂, _∙_}
 use mathlib.Core.Bool.{_&&_}
 use mathlib.Core.Logic.{_↔_}
 use mathlib.Core.List.{List, [], _∷_, _++_, append-assoc}
@@ -77,7 +77,8 @@ read-is-line s f e =
     let d = after-stands (z .place) every s (i .value) (i .place) (i .is) in
     let j = found-of (numberAfter (i .place) jitter s) _ f (i .goes) in
     let g = after-stands (i .place) jitter s (j .value) (j .place) (j .is) in
-    let o = ended-of (j .place) s _ f (g .0) (j .goes) in
+    let read-flow : Flow = record { number = n .value; size = z .value; interval = i .value; jitter = j .value } in
+    let o = ended-of (j .place) s read-flow f (g .0) (j .goes) in
     rw (← o .0) (
       (a .1, b .1, d .1, g .1),
       stands flow (n .value) _ s 0 (n .place) (a .2)

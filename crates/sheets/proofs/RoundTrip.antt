@@ -4,13 +4,10 @@ use mathlib.Core.List.{List, _++_}
 use Prim.Native.Nat.{ℕ, _≤_, _<_}
 use native.Mathlib.Omega.{arith}
 use lib.ListN.{length, getD, take, drop}
-use Rattle.fields.specs.declared.flow.Flow.{Flow}
-use Rattle.refusals.specs.declared.Checked.{Checked}
 use Rattle.refusals.specs.declared.Checked.the-variants.{Passed}
 use Rattle.refusals.specs.declared.Written.the-variants.{Bytes}
-use Rattle.refusals.specs.Answers.{answer, written}
 use Rattle.refusals.proofs.Rooms.{ends-written, written-front}
-use Rattle.lists.specs.Lists.{count, flowsOf, listOf}
+use Rattle.lists.specs.Lists.{flowsOf, listOf}
 use Rattle.lists.specs.Tests.{tests1to4}
 use Rattle.lists.proofs.Records.{length-flows}
 use Rattle.lists.proofs.Verdicts.{few}

@@ -8,7 +8,7 @@ use native.Mathlib.Numerals.{add-one}
 use native.Mathlib.Omega.{arith}
 use lib.Dec.{leb, ltb, eqb}
 use lib.ListN.{length, getD, take, drop, drop-of-length-le, length-drop}
-use lib.Seq.{drop-cons, take-all}
+use lib.Seq.{drop-cons}
 use borrow.Author.Tests.{lt-ltb, lt-leb, le-leb, ne-eqb, leb-true, ltb-true}
 use Rattle.logic.specs.Lists.{All}
 use Rattle.logic.proofs.Parts.{part-to-end}
