@@ -127,3 +127,6 @@ module _ (t : List ℕ) (a b : ℕ) where
   pub edges-inside : let k = windowTests t a b in k ≡ Passed → (edge k t a ≤ edge k t b) × (edge k t b ≤ length t)
   unfolding edge
   edges-inside e = let h = lawful-edges t a b (lawful t a b e) in rw e (omega arith, h .2)
+
+  pub edges-ordered : (i j : ℕ) → edgesOf t a b ≡ Bytes i j → i ≤ j
+  edges-ordered i j e = let f = passed-edges i j e in let h = edges-inside (f .0) in omega arith
