@@ -23,7 +23,7 @@ pub narrow : (r w n : ℕ) → n ≡ r * w → 0 < r → w ≤ n
 narrow zero w n e h = absurd (omega arith)
 narrow (suc r) w n e h = omega arith
 
-module _ (φ i w : ℕ) (fs : List Flow) (is : List ℕ) (hs : List (List Settled)) (cs ls ks bs : List ℕ) (O : Opened φ i w fs is hs cs ls ks bs)
+module _ {φ i w : ℕ} {fs : List Flow} {is : List ℕ} {hs : List (List Settled)} {cs ls ks bs : List ℕ} (O : Opened φ i w fs is hs cs ls ks bs)
     (many : length fs ≤ length ks) (many′ : length fs ≤ length bs) where
   -- the window repeated, the group placed in it, its end
   abbrev pub window : List Frame
@@ -99,41 +99,45 @@ module _ (φ i w : ℕ) (fs : List Flow) (is : List ℕ) (hs : List (List Settle
         fits : w ≤ length cs
         fits = narrow (O .times) w (length cs) (O .whole) (O .positive)
 
--- the same of what the code leaves, step by step
-module _ (φ i w : ℕ) (fs : List Flow) (cs ls ks bs : List ℕ) (many : length fs ≤ length ks) (many′ : length fs ≤ length bs)
-    (cs₁ ls₁ cs₂ ks₂ : List ℕ) (q : Placed)
-    (copied : (r : ℕ) → length cs ≡ r * w → cs₁ ≡ rep r (take w cs)) (copied′ : (r : ℕ) → length ls ≡ r * w → ls₁ ≡ rep r (take w ls))
-    (laid : laidOf q cs₂ ks₂ ≡ groupCells φ i 0 cs₁ ls₁ ks fs) where
+-- what the code leaves, step by step: the layout's cells repeated, then the group placed with the answer q
+pub record Leaves (φ i w : ℕ) (fs : List Flow) (cs ls ks bs cs₁ ls₁ cs₂ ks₂ : List ℕ) (q : Placed) : Type 0 where
+  pub many : length fs ≤ length ks
+  pub many′ : length fs ≤ length bs
+  pub copied : (r : ℕ) → length cs ≡ r * w → cs₁ ≡ rep r (take w cs)
+  pub copied′ : (r : ℕ) → length ls ≡ r * w → ls₁ ≡ rep r (take w ls)
+  pub laid : laidOf q cs₂ ks₂ ≡ groupCells φ i 0 cs₁ ls₁ ks fs
+
+module _ {φ i w : ℕ} {fs : List Flow} {cs ls ks bs cs₁ ls₁ cs₂ ks₂ : List ℕ} {q : Placed} (S : Leaves φ i w fs cs ls ks bs cs₁ ls₁ cs₂ ks₂ q) where
   module _ (is : List ℕ) (hs : List (List Settled)) (O : Opened φ i w fs is hs cs ls ks bs) where
     copy : cs₁ ≡ rep (O .times) (take w cs)
-    copy = copied (O .times) (O .whole)
+    copy = S .copied (O .times) (O .whole)
 
     copy′ : ls₁ ≡ rep (O .times) (take w ls)
-    copy′ = copied′ (O .times) (O .same ∙ O .whole)
+    copy′ = S .copied′ (O .times) (O .same ∙ O .whole)
 
-    laid-is : laidOf q cs₂ ks₂ ≡ placed φ i w fs is hs cs ls ks bs O many many′
-    laid-is = laid ∙ ap₂ (λ (x y : List ℕ). groupCells φ i 0 x y ks fs) copy copy′
+    laid-is : laidOf q cs₂ ks₂ ≡ placed O (S .many) (S .many′)
+    laid-is = S .laid ∙ ap₂ (λ (x y : List ℕ). groupCells φ i 0 x y ks fs) copy copy′
 
-    stood : q ≡ Lawful → placed φ i w fs is hs cs ls ks bs O many many′ .placed ≡ Lawful
+    stood : q ≡ Lawful → placed O (S .many) (S .many′) .placed ≡ Lawful
     stood e = sym (ap (λ (l : Laid). l .placed) laid-is) ∙ e
 
     pub left-inside : q ≡ Lawful → Inside i (length cs) 0 fs ks₂
-    left-inside e = rw (ap (λ (l : Laid). l .frames) laid-is) (inside φ i w fs is hs cs ls ks bs O many many′ (stood e))
+    left-inside e = rw (ap (λ (l : Laid). l .frames) laid-is) (inside O (S .many) (S .many′) (stood e))
 
     pub left-low : q ≡ Lawful → (k : ℕ) → k < length cs₂ → over φ 0 (take k cs₂) < 65536
-    left-low e = rw (ap (λ (l : Laid). l .contents) laid-is) (low-over φ i w fs is hs cs ls ks bs O many many′ (stood e))
+    left-low e = rw (ap (λ (l : Laid). l .contents) laid-is) (low-over O (S .many) (S .many′) (stood e))
 
   pub added-refused : (p : ℕ) (ms ns es : List ℕ) → q ≡ NoFrame p → Added φ i w fs cs ls ks bs (NoFrame p) cs₂ ms ns es
   added-refused p ms ns es e is hs O =
-      closed-refused φ i w fs is hs cs ls ks bs O many many′ p cs₂ ms ns es (sym (ap (λ (l : Laid). l .placed) (laid-is is hs O)) ∙ e)
+      closed-refused O (S .many) (S .many′) p cs₂ ms ns es (sym (ap (λ (l : Laid). l .placed) (laid-is is hs O)) ∙ e)
 
   pub added-all : (ms es : List ℕ) → q ≡ Lawful → endedOf ms es ≡ endCells φ i 0 cs₂ ls₁ ks₂ bs fs → Added φ i w fs cs ls ks bs Lawful cs₂ ms ks₂ es
   added-all ms es e f is hs O =
-      let P = placed φ i w fs is hs cs ls ks bs O many many′ in
+      let P = placed O (S .many) (S .many′) in
       let c : cs₂ ≡ P .contents = ap (λ (l : Laid). l .contents) (laid-is is hs O) in
       let k : ks₂ ≡ P .frames = ap (λ (l : Laid). l .frames) (laid-is is hs O) in
-      let d : endedOf ms es ≡ ended φ i w fs is hs cs ls ks bs O many many′ =
+      let d : endedOf ms es ≡ ended O (S .many) (S .many′) =
       f ∙ ap (λ (x : List ℕ). endCells φ i 0 x ls₁ ks₂ bs fs) c ∙ ap₂ (λ (x y : List ℕ). endCells φ i 0 (P .contents) x y bs fs) (copy′ is hs O) k in
-      let m : ms ≡ ended φ i w fs is hs cs ls ks bs O many many′ .limits = ap (λ (l : Ended). l .limits) d in
-      let b : es ≡ ended φ i w fs is hs cs ls ks bs O many many′ .bases = ap (λ (l : Ended). l .bases) d in
-      rw (c, m, k, b) (closed-all φ i w fs is hs cs ls ks bs O many many′ (stood is hs O e))
+      let m : ms ≡ ended O (S .many) (S .many′) .limits = ap (λ (l : Ended). l .limits) d in
+      let b : es ≡ ended O (S .many) (S .many′) .bases = ap (λ (l : Ended). l .bases) d in
+      rw (c, m, k, b) (closed-all O (S .many) (S .many′) (stood is hs O e))

@@ -1,0 +1,4 @@
+pub mod Rising
+pub mod Bounds
+pub mod Reaching
+pub mod Turns

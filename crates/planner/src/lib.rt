@@ -1,0 +1,3 @@
+// The planner: the flows of a packed list placed group by group, and the table of their grants.
+mod groups;
+mod intervals;
