@@ -1,10 +1,10 @@
 -- The law: the scheduling rules of document 002, section 2, for a table that repeats every cycle, forever. Assumes nothing.
 use mathlib.Core.Path.{_≡_}
 use mathlib.Core.Bool.{true}
-use mathlib.Core.List.{List, [], _∷_}
+use mathlib.Core.List.{List}
 use Prim.Native.Nat.{ℕ, _+_, _-_, _*_, _/_, _%_, _≤_, _<_}
 use lib.ListN.{length, getD}
-use Rattle.logic.specs.Lists.{All}
+use Rattle.logic.specs.Lists.{All, Neighbours}
 use Rattle.fields.specs.declared.flow.Flow.{Flow}
 use Rattle.lists.specs.Facts.{cycle}
 use Rattle.tables.specs.declared.packed.Grant.{Grant}
@@ -59,12 +59,6 @@ pub record Law (z : ℕ) (fs : List Flow) (tab : List Grant) : Type 0 where
   pub listed : All (λ r. known fs (r .flow) ≡ true) tab
   pub obeyed : All (λ f. Obeys z (cycle fs) (to (f .number) tab) f) fs
   pub once : Once z fs tab
-
--- each entry and the next
-abbrev pub Neighbours {ℓ} : {A : Type ℓ} → (A → A → Type 0) → List A → Type 0
-Neighbours R [] = Unit
-Neighbours R (x ∷ []) = Unit
-Neighbours R (x ∷ y ∷ xs) = R x y × Neighbours R (y ∷ xs)
 
 -- starts strictly rise
 abbrev pub Rising : List Grant → Type 0

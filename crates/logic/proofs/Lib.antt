@@ -1,1 +1,5 @@
 pub mod Tests
+pub mod Members
+pub mod Sums
+pub mod Progressions
+pub mod Appends

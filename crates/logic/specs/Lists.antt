@@ -17,3 +17,9 @@ every ok (x ∷ xs) = ok x && every ok xs
 unfoldable pub sum {ℓ} : {A : Type ℓ} → (A → ℕ) → List A → ℕ
 sum v [] = 0
 sum v (x ∷ xs) = v x + sum v xs
+
+-- each entry and the next
+abbrev pub Neighbours {ℓ} : {A : Type ℓ} → (A → A → Type 0) → List A → Type 0
+Neighbours R [] = Unit
+Neighbours R (x ∷ []) = Unit
+Neighbours R (x ∷ y ∷ xs) = R x y × Neighbours R (y ∷ xs)

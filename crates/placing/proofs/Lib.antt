@@ -1,1 +1,14 @@
 pub mod Cases
+pub mod Overhangs
+pub mod Placed
+pub mod Groups
+pub mod Layouts
+pub mod Ended
+pub mod Nominals
+pub mod Tables
+pub mod Windows
+pub mod Standing
+pub mod Passes
+pub mod Room
+pub mod Always
+pub mod First

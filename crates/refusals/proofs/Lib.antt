@@ -1,3 +1,4 @@
 pub mod Lowest
 pub mod Chains
 pub mod Rooms
+pub mod Entries

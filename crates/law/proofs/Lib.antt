@@ -1,0 +1,11 @@
+pub mod Listed
+pub mod FlowGrants
+pub mod Chains
+pub mod Times
+pub mod Rounds
+pub mod Counting
+pub mod Reading
+pub mod CheckIsLaw
+pub mod Demand
+pub mod Oversold
+pub mod Cases
