@@ -28,7 +28,7 @@ pub record Keeps (f : Flow) : Type 0 where
   pub fitting : f .size ≤ f .interval
   pub tolerable : f .jitter < f .interval
 
-among-both : (a b x : ℕ) → among a b x ≡ true → (a ≤ x) × (x ≤ b)
+pub among-both : (a b x : ℕ) → among a b x ≡ true → (a ≤ x) × (x ≤ b)
 among-both a b x h =
     let both = and-both (leb a x) (leb x b) h in
     (leb-true a x (both .0), leb-true x b (both .1))

@@ -2,5 +2,6 @@ pub mod Packed
 pub mod Turns
 pub mod Widths
 pub mod Records
+pub mod Places
 pub mod Flows
 pub mod Cases

@@ -10,7 +10,7 @@ use lib.Seq.{drop-cons}
 use Rattle.logic.specs.Lists.{All}
 use Rattle.refusals.specs.declared.Refusal.{Refusal}
 use Rattle.refusals.specs.declared.Checked.the-variants.{Passed, Refused}
-use Rattle.refusals.specs.Tests.{lowest, against}
+use Rattle.refusals.specs.Tests.{lowest, against, after}
 use Rattle.refusals.proofs.Chains.{refused-not}
 
 -- every test passes
@@ -56,3 +56,10 @@ pub against-alone {ℓ} : {A : Type ℓ} (ok : A → Bool) (seen xs : List A) �
 unfolding against
 against-alone ok seen [] = refl
 against-alone ok seen (x ∷ xs) = rw (against-alone ok (x ∷ seen) xs)
+
+-- a test against the entry before alone
+pub against-after {ℓ} : {A : Type ℓ} (ok : A → A → Bool) (y : A) (seen : List A) (x : A) (xs : List A)
+    → against (after ok) (y ∷ seen) (x ∷ xs) ≡ ok y x ∷ against (after ok) (x ∷ []) xs
+unfolding against after
+against-after ok y seen x [] = refl
+against-after ok y seen x (z ∷ xs) = rw (against-after ok x (y ∷ seen) z xs, against-after ok x [] z xs)

@@ -1,9 +1,10 @@
 -- Document 01's "Packed forms": what the bytes of a table mean. Assumes nothing.
-use Prim.Native.Nat.{ℕ, zero, suc, _+_, _*_}
+use Prim.Native.Nat.{ℕ, zero, suc, _+_, _-_, _*_}
 use mathlib.Core.List.{List, [], _∷_, _++_}
-use lib.ListN.{length, getD, drop}
+use lib.ListN.{length, getD, take, drop}
 use Rattle.fields.specs.declared.kind.Kind.the-variants.{TableHead, TableRecord}
-use Rattle.fields.specs.Records.{packed, valuesOf}
+use Rattle.fields.specs.declared.record.Stored.{Stored}
+use Rattle.fields.specs.Records.{packed, valuesOf, stored, roomAfter}
 use Rattle.tables.specs.declared.packed.Grant.{Grant}
 
 -- the fields of the head of a table of n records: edition 1, kind 2, spare bits, count, cycle, frame
@@ -71,3 +72,11 @@ records (g ∷ gs) = packed TableRecord (fieldsOf g) ++ records gs
 -- the table of grants with the cycle c and the frame φ
 unfoldable pub tableOf : ℕ → ℕ → List Grant → List ℕ
 tableOf c φ gs = head (length gs) c φ ++ records gs
+
+-- what writing a grant as record i comes to in a room of n bytes
+unfoldable pub recordStored : Grant → ℕ → ℕ → Stored
+recordStored g i n = stored TableRecord (fieldsOf g) (n - place i)
+
+-- the room afterwards
+unfoldable pub recordAfter : Grant → ℕ → List ℕ → List ℕ
+recordAfter g i room = take (place i) room ++ roomAfter TableRecord (fieldsOf g) (drop (place i) room)

@@ -27,6 +27,11 @@ unfoldable pub before : ℕ → List Grant → ℕ
 before a [] = 0
 before a (g ∷ gs) = let rest = suc (before a gs) in cond (ltb (g .start) a) rest 0
 
+-- the grants with a ≤ start < b, in their order
+unfoldable pub startingIn : ℕ → ℕ → List Grant → List Grant
+startingIn a b [] = []
+startingIn a b (g ∷ gs) = let rest = startingIn a b gs in cond (leb a (g .start) && ltb (g .start) b) (g ∷ rest) rest
+
 -- where the stretch of an end stands in the table, in bytes: before the first record with start ≥ a, or at the end of the table;
 -- on a refusal at the table's front
 unfoldable pub edge : Checked → List ℕ → ℕ → ℕ

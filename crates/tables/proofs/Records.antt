@@ -1,0 +1,37 @@
+-- A record of a table, read and written at its place. Assumes nothing.
+use mathlib.Core.Path.{_≡_, sym, ap}
+use mathlib.Core.List.{List, _++_}
+use Prim.Native.Nat.{ℕ, _-_, _/_, _≤_}
+use native.Mathlib.Omega.{arith}
+use lib.ListN.{length, take, drop, replicate, length-drop}
+use Rattle.fields.specs.declared.kind.Kind.the-variants.{TableRecord}
+use Rattle.fields.specs.declared.record.Stored.{Stored}
+use Rattle.fields.specs.declared.record.Stored.the-variants.{Short}
+use Rattle.fields.specs.Records.{valuesOf, stored, roomAfter}
+use Rattle.fields.proofs.Records.{values-short}
+use Rattle.fields.proofs.Places.{part-to-end, ends-beyond, ends-part}
+use Rattle.tables.specs.declared.packed.Grant.{Grant}
+use Rattle.tables.specs.Tables.{place, valuesAt, fieldsOf, recordStored, recordAfter}
+
+-- ---- reading
+
+pub values-beyond : (t : List ℕ) (i k : ℕ) → k ≡ (length t - 8) / 5 → k ≤ i → replicate 6 0 ≡ valuesAt t i
+unfolding valuesAt
+values-beyond t i k e h = sym (values-short TableRecord (drop (place i) t) (simp length-drop (omega arith)))
+
+pub values-part : (t : List ℕ) (i : ℕ) → valuesOf TableRecord (take (length t - place i) (drop (place i) t)) ≡ valuesAt t i
+unfolding valuesAt
+values-part t i = ap (valuesOf TableRecord) (part-to-end (place i) t)
+
+-- ---- writing
+
+module _ (g : Grant) (i : ℕ) (room : List ℕ) where
+  pub record-beyond : (k : ℕ) → k ≡ (length room - 8) / 5 → k ≤ i → (Short ≡ recordStored g i (length room)) × (room ≡ recordAfter g i room)
+  unfolding recordStored recordAfter
+  record-beyond k e h = ends-beyond TableRecord (place i) (fieldsOf g) room (omega arith)
+
+  pub record-part : (a : Stored) (ys : List ℕ) → let part = take (length room - place i) (drop (place i) room) in
+      a ≡ stored TableRecord (fieldsOf g) (length part) → ys ≡ roomAfter TableRecord (fieldsOf g) part
+      → (a ≡ recordStored g i (length room)) × (take (place i) room ++ (ys ++ drop (length room - place i) (drop (place i) room)) ≡ recordAfter g i room)
+  unfolding recordStored recordAfter
+  record-part = ends-part TableRecord (place i) (fieldsOf g) room

@@ -1,0 +1,26 @@
+-- `tables::packed::cycle` meets its contract.
+-- Assumes nothing.
+use mathlib.Core.Path.{ap}
+use mathlib.Core.List.{List}
+use Prim.Native.Nat.{ℕ}
+use lib.ListN.{getD}
+use borrow.Author.Needs.{needs}
+use Rattle.tables.specs.Tables.{cycleOf}
+use Rattle.tables.proofs.packed.cycle.Statement.{statement}
+use Rattle.tables.proofs.packed.cycle.Tie as tie
+use Rattle.tables.proofs.packed.cycle.Reads as reads
+use Rattle.tables.proofs.packed.cycle.Lts as lts
+use Rattle.tables.proofs.packed.head_of.Reads as head-of-reads
+
+head-of-requires : tie.Need-head-of-requires
+head-of-requires c κs = search needs
+
+array-read-result : tie.Need-array-read-result
+array-read-result c = search needs
+
+returns : tie.Need-returns
+unfolding cycleOf
+returns c = ap (λ (head : List ℕ). getD head 4 0) (c .head-of .ensures)
+
+pub cycle-spec : {M : Type 1} → statement M
+cycle-spec = tie.close (tie.spec head-of-requires array-read-result returns)

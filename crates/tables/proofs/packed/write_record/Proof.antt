@@ -1,0 +1,61 @@
+-- `tables::packed::write_record` meets its contract.
+-- Assumes nothing.
+use borrow.Author.Needs.{needs}
+use Rattle.tables.proofs.Records.{record-beyond, record-part}
+use Rattle.tables.proofs.packed.write_record.Statement.{statement}
+use Rattle.tables.proofs.packed.write_record.Tie as tie
+use Rattle.tables.proofs.packed.write_record.Reads as reads
+use Rattle.tables.proofs.packed.write_record.Lts as lts
+use Rattle.fields.proofs.write.Reads as write-reads
+use Rattle.tables.proofs.packed.whole_records.Reads as whole-records-reads
+
+whole-records-requires : tie.Need-whole-records-requires
+whole-records-requires c κs = search needs
+
+returns : tie.Need-returns
+returns c =
+    let a = c .before .before .before .args in
+    let w = c .before .whole-records in
+    record-beyond (a .g) (a .i) (a .room .now) (w .result) (w .ensures) (c .if1 .taken)
+
+mul-start : tie.Need-mul-start
+mul-start c = search needs
+
+add-start : tie.Need-add-start
+add-start c = search needs
+
+sub-write : tie.Need-sub-write
+sub-write c = search needs
+
+part-write-start : tie.Need-part-write-start
+part-write-start c = search needs
+
+part-write-end : tie.Need-part-write-end
+part-write-end c = search needs
+
+write-requires : tie.Need-write-requires
+write-requires c κs = search needs
+
+same-length : tie.Need-same-length
+same-length c = search needs
+
+returns-2 : tie.Need-returns-2
+returns-2 c =
+    let a = c .before .before .before .before .before .before .before .args in
+    let w = c .before .before .write in
+    record-part (a .g) (a .i) (a .room .now) (w .result) (w .last .1 .1 .0) (w .ensures .0) (w .ensures .1)
+
+pub write-record-spec : {M : Type 1} → statement M
+write-record-spec =
+    tie.close
+    (tie.spec
+    whole-records-requires
+    returns
+    mul-start
+    add-start
+    sub-write
+    part-write-start
+    part-write-end
+    write-requires
+    same-length
+    returns-2)
