@@ -16,7 +16,8 @@ use Rattle.layout.proofs.Copies.{length-rep}
 use Rattle.layout.proofs.Limits.{lawful-over}
 use Rattle.layout.proofs.Groups.{Placed-as, group-is, Inside, cells-inside, length-contents, length-olds}
 use Rattle.layout.proofs.Settling.{ended-is}
-use Rattle.layout.proofs.Layouts.{opened-is, length-opened, olds-opened, standing-rep}
+use Rattle.layout.proofs.Layouts.{opened-is, standing-rep}
+use Rattle.placing.proofs.Layouts.{opened-olds, opened-length}
 
 -- one copy is no longer than the whole
 pub narrow : (r w n : ℕ) → n ≡ r * w → 0 < r → w ≤ n
@@ -39,7 +40,7 @@ module _ {φ i w : ℕ} {fs : List Flow} {is : List ℕ} {hs : List (List Settle
   length-copies = length-rep hs (O .times) ∙ ap (λ (x : ℕ). O .times * x) (O .wide) ∙ sym (O .whole)
 
   length-window : length window ≡ length cs
-  length-window = length-opened (rep (O .times) hs) ∙ length-copies
+  length-window = opened-length (rep (O .times) hs) ∙ length-copies
 
   placed-as : Placed-as φ i fs window (rep (O .times) (take w ls)) ks (group φ i 1 window fs) placed
   placed-as =
@@ -72,7 +73,7 @@ module _ {φ i w : ℕ} {fs : List Flow} {is : List ℕ} {hs : List (List Settle
               refl,
               ended-is φ i w fs is (rep (O .times) hs) M (placed .contents) (rep (O .times) (take w ls)) ks (placed .frames) bs (O .before) wide many′
                   (standing-rep φ i (O .times) fs is hs (take w cs) (take w ls) ks bs (omega (arith, O .wide, O .some)) (rw (sym (O .wide)) at (O .before)) (O .agrees))
-                  (F .filling) (F .old ∙ olds-opened (rep (O .times) hs)) (F .apart),
+                  (F .filling) (F .old ∙ opened-olds (rep (O .times) hs)) (F .apart),
               wide,
             )
 

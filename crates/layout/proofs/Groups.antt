@@ -6,17 +6,18 @@ use Prim.Native.Nat.{ℕ, zero, suc, _+_, _-_, _*_, _≤_, _<_}
 use native.Mathlib.Omega.{arith}
 use native.Mathlib.Nat.{sub-zero}
 use lib.Dec.{eqb}
-use lib.ListN.{length, getD, set, length-set, length-append}
+use lib.ListN.{length, getD, set, length-set, length-append, length-map}
 use lib.Seq.{getD-set-same, getD-set-other}
 use borrow.Author.Tests.{lt-ltb, le-ltb, eq-eqb, ne-eqb}
 use Rattle.fields.specs.declared.flow.Flow.{Flow}
-use Rattle.placing.specs.declared.Found.{Found}
 use Rattle.placing.specs.declared.Found.the-variants.{At, Nowhere}
 use Rattle.layout.specs.declared.placed.Placed.the-variants.{Lawful, NoFrame}
 use Rattle.logic.specs.Lists.{sum}
 use Rattle.lists.specs.Facts.{occupies}
 use Rattle.placing.specs.Rule.{Outcome, done, refused, Settled, Frame, weight, content, past, lawful, takes, firstLawful, contents, olds, put, group}
-use Rattle.layout.specs.Cells.{free, limits, first, step, Laid, Small, groupCells, keep, stands, members, granted}
+use Rattle.layout.specs.Cells.{free, limit, limits, first, step, Laid, Small, groupCells, keep, stands, members, granted}
+use Rattle.logic.proofs.Appends.{sum-append}
+use Rattle.placing.proofs.Groups.{group-at, group-nowhere, group-other, by-found}
 use Rattle.logic.proofs.Tests.{by-test, by-lt, by-eq, true-not-false}
 use Rattle.layout.proofs.Limits.{total, lawful-tail, lawful-room, firstLawful-first, first-fits}
 
@@ -26,25 +27,17 @@ none = record { old = []; new = [] }
 
 pub length-contents : (L : List Frame) → length (contents L) ≡ length L
 unfolding contents
-length-contents [] = refl
-length-contents (x ∷ L) = ap suc (length-contents L)
+length-contents L = length-map L _
 
 pub length-olds : (L : List Frame) → length (olds L) ≡ length L
 unfolding olds
-length-olds [] = refl
-length-olds (x ∷ L) = ap suc (length-olds L)
+length-olds L = length-map L _
 
 pub length-limits : (hs : List (List Settled)) → length (limits hs) ≡ length hs
 unfolding limits
-length-limits [] = refl
-length-limits (h ∷ hs) = ap suc (length-limits hs)
+length-limits hs = length-map hs limit
 
 -- ---- a flow put into frame k
-
-pub sum-append {ℓ} : {A : Type ℓ} (v : A → ℕ) (xs ys : List A) → sum v (xs ++ ys) ≡ sum v xs + sum v ys
-unfolding sum
-sum-append v [] ys = omega arith
-sum-append v (x ∷ xs) ys = omega (arith, sum-append v xs ys)
 
 contents-put : (f : Flow) (k : ℕ) (L : List Frame) → contents (put f k L) ≡ set (contents L) k (getD (contents L) k 0 + occupies f)
 unfolding contents put content sum
@@ -206,10 +199,6 @@ placed-before φ i fs L M ls ks ns (done N) c o l a h =
     let g = h .1 in
     (h .0, record { filling = g .filling; old = g .old ∙ o; apart = λ n m bs e. g .apart n m bs e ∙ a n m bs e; many = g .many ∙ l })
 
-by-found {ℓ} : {P : Type ℓ} (r : Found) → ((k : ℕ) → r ≡ At k → P) → (r ≡ Nowhere → P) → P
-by-found (At k) f g = f k refl
-by-found Nowhere f g = g refl
-
 -- one flow of the list: the three ways
 module _ (φ i j : ℕ) (cs ls ks : List ℕ) (f : Flow) where
   pub step-other : (f .interval ≡ i → ⊥) → step φ i j cs ls ks f ≡ record { stands = true; contents = cs; frames = ks }
@@ -277,19 +266,6 @@ cells-inside φ i j cs ls ks (f ∷ fs) h p =
     let on = cells-on φ i j cs ls ks f fs cs ks (step-other φ i j cs ls ks f e) in
     rw on (λ z. absurd (e z), cells-inside φ i (suc j) cs ls ks fs (omega arith) (sym (ap (λ (l : Laid). l .placed) on) ∙ p)))
 
-module _ (φ i p : ℕ) (L : List Frame) (f : Flow) (fs : List Flow) where
-  group-other : (f .interval ≡ i → ⊥) → group φ i p L (f ∷ fs) ≡ group φ i (suc p) L fs
-  unfolding group
-  group-other e = rw (ne-eqb (f .interval) i e, group)
-
-  group-at : (k : ℕ) → f .interval ≡ i → firstLawful φ (occupies f) 0 0 (contents L) (olds L) ≡ At k → group φ i p L (f ∷ fs) ≡ group φ i (suc p) (put f k L) fs
-  unfolding group
-  group-at k e a = rw (eq-eqb (f .interval) i e, group) (rw (a, group))
-
-  group-nowhere : f .interval ≡ i → firstLawful φ (occupies f) 0 0 (contents L) (olds L) ≡ Nowhere → group φ i p L (f ∷ fs) ≡ refused p
-  unfolding group
-  group-nowhere e a = rw (eq-eqb (f .interval) i e, group) (rw (a, group))
-
 pub group-is : (φ i b : ℕ) (xs ys : List Flow) (L : List Frame) (cs ls ks : List ℕ) → length xs + length ys ≤ length ks → Small b ys → length L * φ + b ≤ free
     → Filling φ i xs L cs ls ks → Placed-as φ i (xs ++ ys) L ls ks (group φ i (suc (length xs)) L ys) (groupCells φ i (length xs) cs ls ks ys)
 unfolding group groupCells
@@ -313,7 +289,7 @@ group-is φ i b xs (f ∷ ys) L cs ls ks h s r F =
     (λ k a.
     let ds = set cs k (getD cs k 0 + occupies f) in
     let ns = set ks j k in
-    rw (group-at φ i (suc j) L f ys k e (same ∙ a), cells-on φ i j cs ls ks f ys ds ns (step-at φ i j cs ls ks f k e a))
+    rw (group-at φ i (suc j) k L f ys e (same ∙ a), cells-on φ i j cs ls ks f ys ds ns (step-at φ i j cs ls ks f k e a))
     (placed-before φ i (xs ++ f ∷ ys) L (put f k L) ls ks ns (group φ i (suc (suc j)) (put f k L) ys) (groupCells φ i (suc j) ds ls ns ys) (olds-put f k L) (length-set ks j k)
     (λ n m bs d. granted-apart n m bs 0 j k xs f ys ks (λ z. d (sym z ∙ e)) (omega arith))
     (next (put f k L) ds ns (length-set ks j k) (length-put f k L) (filling-put φ i k xs f L cs ls ks e (omega arith) (same ∙ a) F))))

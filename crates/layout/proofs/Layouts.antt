@@ -1,7 +1,7 @@
 -- A layout repeated for the next group's window. Assumes nothing.
 use mathlib.Core.Path.{_≡_, refl, sym, ap, ap₂, _∙_}
 use mathlib.Core.Bool.{true}
-use mathlib.Core.List.{List, [], _∷_, _++_}
+use mathlib.Core.List.{List, [], _∷_, _++_, map, map-append}
 use Prim.Native.Nat.{ℕ, zero, suc, _+_, _-_, _*_, _%_, _<_}
 use native.Mathlib.Nat.{mod-eq-of-lt, add-mod-left, mod-lt}
 use native.Mathlib.Omega.{arith}
@@ -10,13 +10,14 @@ use lib.Seq.{getD-append-add}
 use borrow.Author.Tests.{eqb-true}
 use Rattle.fields.specs.declared.flow.Flow.{Flow}
 use Rattle.logic.specs.Lists.{sum}
-use Rattle.placing.specs.Rule.{Settled, weight, content, past, lawful, contents, olds, rep, opened}
+use Rattle.placing.specs.Rule.{Settled, weight, content, past, lawful, contents, rep, opened}
 use Rattle.layout.specs.Cells.{loads}
 use Rattle.layout.specs.Cells.{limit, limits, members, standing}
 use Rattle.logic.proofs.Tests.{by-lt}
 use Rattle.layout.proofs.Copies.{length-rep}
 use Rattle.layout.proofs.Limits.{lawful-tail}
 use Rattle.layout.proofs.Groups.{none, Filling}
+use Rattle.placing.proofs.Layouts.{opened-olds}
 use Rattle.layout.specs.State.{Agrees, Before}
 use Rattle.layout.proofs.Settling.{standing-again}
 
@@ -32,25 +33,10 @@ rep-at xs (suc r) m d z h =
     let e : m ≡ length xs + n = omega arith in
     rw e (getD-append-add xs (rep r xs) n d ∙ rep-at xs r n d z (omega arith) ∙ ap (λ (k : ℕ). getD xs k d) (sym (add-mod-left (length xs) n))))
 
-loads-append : (g h : List (List Settled)) → loads (g ++ h) ≡ loads g ++ loads h
-unfolding loads
-loads-append [] h = refl
-loads-append (x ∷ g) h = ap (λ (l : List ℕ). weight x ∷ l) (loads-append g h)
-
-limits-append : (g h : List (List Settled)) → limits (g ++ h) ≡ limits g ++ limits h
-unfolding limits
-limits-append [] h = refl
-limits-append (x ∷ g) h = ap (λ (l : List ℕ). limit x ∷ l) (limits-append g h)
-
-loads-rep : (r : ℕ) (hs : List (List Settled)) → loads (rep r hs) ≡ rep r (loads hs)
-unfolding rep loads
-loads-rep zero hs = refl
-loads-rep (suc r) hs = loads-append hs (rep r hs) ∙ ap (λ (l : List ℕ). loads hs ++ l) (loads-rep r hs)
-
-limits-rep : (r : ℕ) (hs : List (List Settled)) → limits (rep r hs) ≡ rep r (limits hs)
-unfolding rep limits
-limits-rep zero hs = refl
-limits-rep (suc r) hs = limits-append hs (rep r hs) ∙ ap (λ (l : List ℕ). limits hs ++ l) (limits-rep r hs)
+map-rep : {A B : Type 0} (f : A → B) (r : ℕ) (xs : List A) → map f (rep r xs) ≡ rep r (map f xs)
+unfolding rep
+map-rep f zero xs = refl
+map-rep {B = B} f (suc r) xs = map-append f xs (rep r xs) ∙ ap (λ (l : List B). map f xs ++ l) (map-rep f r xs)
 
 -- two lawful windows, one after the other
 lawful-join : (φ o : ℕ) (hs gs : List (List Settled)) → lawful φ o (loads hs) hs ≡ true → lawful φ 0 (loads gs) gs ≡ true
@@ -71,31 +57,21 @@ unfolding contents opened loads content sum
 contents-opened [] = refl
 contents-opened (h ∷ hs) = ap₂ (λ (c : ℕ) (l : List ℕ). c ∷ l) (omega arith) (contents-opened hs)
 
-pub olds-opened : (hs : List (List Settled)) → olds (opened hs) ≡ hs
-unfolding olds opened
-olds-opened [] = refl
-olds-opened (h ∷ hs) = ap (λ (l : List (List Settled)). h ∷ l) (olds-opened hs)
-
 new-opened : (hs : List (List Settled)) (m : ℕ) → getD (opened hs) m none .new ≡ []
 unfolding opened
 new-opened [] m = refl
 new-opened (h ∷ hs) zero = refl
 new-opened (h ∷ hs) (suc m) = new-opened hs m
 
-pub length-opened : (hs : List (List Settled)) → length (opened hs) ≡ length hs
-unfolding opened
-length-opened [] = refl
-length-opened (h ∷ hs) = ap suc (length-opened hs)
-
 -- the next group's window before its first flow
 pub opened-is : (φ i r : ℕ) (fs : List Flow) (is : List ℕ) (hs : List (List Settled)) (cs ls ks bs : List ℕ) → Agrees φ fs is hs cs ls ks bs
     → Filling φ i [] (opened (rep r hs)) (rep r cs) (rep r ls) ks
-unfolding members
+unfolding members loads limits
 opened-is φ i r fs is hs cs ls ks bs S =
     record {
-      content = ap (rep r) (S .content) ∙ sym (contents-opened (rep r hs) ∙ loads-rep r hs);
-      limit = ap (rep r) (S .limit) ∙ sym (ap limits (olds-opened (rep r hs)) ∙ limits-rep r hs);
-      law = rw (contents-opened (rep r hs), olds-opened (rep r hs)) (lawful-rep φ r hs (S .law));
+      content = ap (rep r) (S .content) ∙ sym (contents-opened (rep r hs) ∙ map-rep weight r hs);
+      limit = ap (rep r) (S .limit) ∙ sym (ap limits (opened-olds (rep r hs)) ∙ map-rep limit r hs);
+      law = rw (contents-opened (rep r hs), opened-olds (rep r hs)) (lawful-rep φ r hs (S .law));
       new = λ m h. new-opened (rep r hs) m;
     }
 

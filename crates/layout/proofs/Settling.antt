@@ -16,9 +16,11 @@ use Rattle.placing.specs.Rule.{Settled, Frame, weight, content, past, within, l
 use Rattle.layout.specs.Cells.{over, loads}
 use Rattle.layout.specs.Cells.{limit, limits, stamp, endCells, keep, stands, members, granted, standing}
 use Rattle.layout.specs.State.{Agrees, Before}
+use Rattle.logic.proofs.Appends.{sum-append}
+use Rattle.placing.proofs.Layouts.{settle-length}
 use Rattle.logic.proofs.Tests.{by-test, by-eq, true-not-false}
 use Rattle.layout.proofs.Limits.{lawful-tail}
-use Rattle.layout.proofs.Groups.{none, sum-append, length-olds, length-limits, Filling, stands-own, stands-not}
+use Rattle.layout.proofs.Groups.{none, length-olds, length-limits, Filling, stands-own, stands-not}
 
 -- ---- the layout
 
@@ -40,11 +42,6 @@ unfolding loads settle contents content
 loads-settle φ o [] = refl
 loads-settle φ o (x ∷ L) =
     ap₂ (λ (c : ℕ) (l : List ℕ). c ∷ l) (weight-append (x .old) (stamped o (x .new)) ∙ omega (arith, weight-stamped o (x .new))) (loads-settle φ (past φ o (content x)) L)
-
-pub length-settle : (φ o : ℕ) (L : List Frame) → length (settle φ o L) ≡ length L
-unfolding settle
-length-settle φ o [] = refl
-length-settle φ o (x ∷ L) = ap suc (length-settle φ (past φ o (content x)) L)
 
 settle-at : (φ o m : ℕ) (L : List Frame) → m < length L
     → getD (settle φ o L) m [] ≡ getD (olds L) m [] ++ stamped (over φ o (take m (contents L))) (getD L m none .new)
@@ -259,17 +256,17 @@ ended-is φ i w fs is hs M cs ls ks ns bs b wide many old F olds= apart =
     record {
       content = F .content ∙ sym (loads-settle φ 0 M);
       limit = ext-getD 0 (E .limits) (limits (settle φ 0 M))
-          (ends-length φ i 0 cs ls ns bs fs ∙ long ∙ sym (length-limits (settle φ 0 M) ∙ length-settle φ 0 M))
+          (ends-length φ i 0 cs ls ns bs fs ∙ long ∙ sym (length-limits (settle φ 0 M) ∙ settle-length φ 0 M))
           (λ m h.
           let h′ : m < length M = omega (arith, ends-length φ i 0 cs ls ns bs fs) in
           let old-limit : getD ls m 0 ≡ limit (getD hs m []) =
           ap (λ (l : List ℕ). getD l m 0) (F .limit) ∙ limits-at (olds M) m (omega (arith, length-olds M)) ∙ ap (λ (l : List (List Settled)). limit (getD l m [])) olds= in
           ends-limit φ i 0 m cs ls ns bs fs (omega arith)
           ∙ ap (lowered (over φ 0 (take m cs)) (members i m 0 fs ns)) old-limit
-          ∙ sym (limits-at (settle φ 0 M) m (omega (arith, length-settle φ 0 M)) ∙ ap limit (own m h′) ∙ limit-stamped (over φ 0 (take m cs)) (getD hs m []) (members i m 0 fs ns)));
+          ∙ sym (limits-at (settle φ 0 M) m (omega (arith, settle-length φ 0 M)) ∙ ap limit (own m h′) ∙ limit-stamped (over φ 0 (take m cs)) (getD hs m []) (members i m 0 fs ns)));
       law = rw (loads-settle φ 0 M) (lawful-settle φ 0 M (F .law));
       stand = λ m h.
-          let h′ : m < length M = omega (arith, length-settle φ 0 M) in
+          let h′ : m < length M = omega (arith, settle-length φ 0 M) in
           let at : m % (i / φ) ≡ m = mod-eq-of-lt (omega arith) in
           own m h′
           ∙ ap₂ (λ (g h : List Settled). g ++ h)

@@ -43,7 +43,7 @@ by-found Nowhere f g = g refl
 module _ (φ i : ℕ) (R : List Flow → List Frame → List Frame → Type 0)
     (end : (xs : List Frame) → R [] xs xs)
     (own : (k : ℕ) (f : Flow) (fs : List Flow) (xs ys : List Frame) → f .interval ≡ i
-        → firstLawful φ (occupies f) 0 0 (contents xs) (olds xs) ≡ At k → R fs (put f k xs) ys → R (f ∷ fs) xs ys)
+    → firstLawful φ (occupies f) 0 0 (contents xs) (olds xs) ≡ At k → R fs (put f k xs) ys → R (f ∷ fs) xs ys)
     (other : (f : Flow) (fs : List Flow) (xs ys : List Frame) → (f .interval ≡ i → ⊥) → R fs xs ys → R (f ∷ fs) xs ys) where
   pub group-ind : (p : ℕ) (fs : List Flow) (xs ys : List Frame) → group φ i p xs fs ≡ done ys → R fs xs ys
   unfolding group

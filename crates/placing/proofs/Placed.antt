@@ -41,7 +41,7 @@ here-takes φ f o x xs l w = rw (lt-ltb (o + content x) φ l, takes) (rw (conten
 -- induction over the search: what holds where the flow is put, and of a frame that is passed by
 module _ (φ : ℕ) (f : Flow) (R : ℕ → List Frame → List Frame → Type 0)
     (here : (o : ℕ) (x : Frame) (xs : List Frame) → o + content x < φ
-        → lawful φ o (contents (with-flow f x ∷ xs)) (olds (with-flow f x ∷ xs)) ≡ true → R o (x ∷ xs) (with-flow f x ∷ xs))
+    → lawful φ o (contents (with-flow f x ∷ xs)) (olds (with-flow f x ∷ xs)) ≡ true → R o (x ∷ xs) (with-flow f x ∷ xs))
     (beyond : (o : ℕ) (x : Frame) (xs ys : List Frame) → R (past φ o (content x)) xs ys → R o (x ∷ xs) (x ∷ ys)) where
   search-ind : (k n o : ℕ) (xs : List Frame) → firstLawful φ (occupies f) k o (contents xs) (olds xs) ≡ At n
       → (j : ℕ) × (n ≡ k + j) × R o xs (put f j xs)

@@ -67,7 +67,7 @@ groups-refused φ t i p fs hs is e = rw (e, groups)
 module _ (fs : List Flow) (S : ℕ → ℕ → List (List Settled) → Type 0)
     (absent : (t s : ℕ) (hs : List (List Settled)) → ((g : Flow) → Mem g fs → g .interval ≡ suc t → ⊥) → S t s hs → S (suc t) s hs)
     (placed : (t s : ℕ) (hs : List (List Settled)) (xs : List Frame) (g : Flow) → Mem g fs → g .interval ≡ suc t
-        → group (frame fs) (suc t) 1 (opened (rep (suc t / s) hs)) fs ≡ done xs → S t s hs → S (suc t) (suc t) (settle (frame fs) 0 xs)) where
+    → group (frame fs) (suc t) 1 (opened (rep (suc t / s) hs)) fs ≡ done xs → S t s hs → S (suc t) (suc t) (settle (frame fs) 0 xs)) where
   groups-keep : (n t s : ℕ) (hs r : List (List Settled)) → groups (frame fs) fs s hs (rising fs t n) ≡ done r → S t s hs → (w : ℕ) × S (t + n) w r
   unfolding rising groups
   groups-keep zero t s hs r e a =

@@ -19,9 +19,10 @@ use Rattle.layout.specs.Cells.{free, limit, limits, standing}
 use Rattle.layout.specs.State.{Agrees, Before, Opened, Closed, Ready, Added}
 use Rattle.planner.specs.Finished.{Finished}
 use Rattle.lists.specs.Accepted.{Accepted}
-use Rattle.planner.proofs.Bounds.{timed, first, small, interval-le, frames-le, divides}
+use Rattle.lists.proofs.Cycle.{frame-pos}
+use Rattle.planner.proofs.Bounds.{timed, frame-present, small, interval-le, frames-le, divides}
 use Rattle.logic.proofs.Tests.{by-lt}
-use Rattle.layout.proofs.Settling.{length-settle}
+use Rattle.placing.proofs.Layouts.{settle-length}
 use Rattle.layout.proofs.Closing.{narrow}
 use Rattle.planner.proofs.Rising.{from-none, from-next, intervals-from, next-present, next-none, present-le}
 
@@ -53,10 +54,10 @@ reached-start fs cs ls ks bs A ec el =
       wide = refl;
       some = omega arith;
       slots = omega arith;
-      low = interval-le fs A (frame fs) (first fs A .1);
+      low = interval-le fs A (frame fs) (frame-present fs A);
       most = omega arith;
-      next = λ n. (dvd-refl (frame fs), first fs A .1, tt);
-      end = λ z. absurd (omega (arith, first fs A .0));
+      next = λ n. (dvd-refl (frame fs), frame-present fs A, tt);
+      end = λ z. absurd (omega (arith, frame-pos fs A));
       rest = ap (groups (frame fs) fs (frame fs) ([] ∷ [])) (sym begins);
       order = sym begins;
     }
@@ -157,7 +158,7 @@ module _ {φ i t w : ℕ} {fs : List Flow} {is : List ℕ} {hs : List (List Sett
         settle φ 0 L,
         record {
           agrees = h .1;
-          wide = length-settle φ 0 L ∙ h .2;
+          wide = settle-length φ 0 L ∙ h .2;
           some = omega (arith, enough, R .some);
           slots = window-slots φ i t w n (R .slots) (next .0);
           low = interval-le fs A i (next .1);

@@ -9,7 +9,8 @@ use lib.Seq.{length-front}
 use Rattle.lists.specs.Lists.{flowsOf}
 use Rattle.placing.specs.Rule.{Settled}
 use Rattle.planner.specs.Intervals.{from}
-use Rattle.planner.proofs.Bounds.{first, frames-le}
+use Rattle.lists.proofs.Cycle.{frame-pos}
+use Rattle.planner.proofs.Bounds.{frames-le}
 use Rattle.planner.proofs.Reaching.{Reached, reached-start, ready-on, refused-on, next-on, reached-end, to-come}
 use borrow.Author.Needs.{needs}
 use Rattle.planner.proofs.groups.place_all.Statement.{statement}
@@ -51,7 +52,7 @@ loop-holds c =
     )
 
 div-window : tie.Need-div-window Inv-loop μ-loop
-div-window c = let s = start (c .before) in omega (arith, first (flowsOf (s .args .list .now)) (s .pre .1 .0 .0), s .pre .1 .0 .1)
+div-window c = let s = start (c .before) in omega (arith, frame-pos (flowsOf (s .args .list .now)) (s .pre .1 .0 .0), s .pre .1 .0 .1)
 
 cast-window : tie.Need-cast-window Inv-loop μ-loop
 cast-window c = omega (arith, fits c)
