@@ -28,7 +28,7 @@ use Rattle.layout.proofs.Groups.{none, length-olds, length-limits, Fill
 abbrev stamped : ℕ → List Flow → List Settled
 stamped o fs = map (λ (f : Flow). record { flow = f; base = o }) fs
 
-weight-append : (g h : List Settled) → weight (g ++ h) ≡ weight g + weight h
+pub weight-append : (g h : List Settled) → weight (g ++ h) ≡ weight g + weight h
 unfolding weight
 weight-append g h = sum-append (λ x. occupies (x .flow)) g h
 

@@ -2,3 +2,5 @@ pub mod Rising
 pub mod Bounds
 pub mod Reaching
 pub mod Turns
+pub mod Writing
+pub mod Tabling

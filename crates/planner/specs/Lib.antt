@@ -1,2 +1,3 @@
 pub mod Intervals
 pub mod Finished
+pub mod Rows
