@@ -1,11 +1,11 @@
 -- A flow's rule, and its record there and back. Assumes nothing.
-use mathlib.Core.Path.{_≡_, ap, _∙_}
-use mathlib.Core.Bool.{true}
+use mathlib.Core.Path.{_≡_, sym, ap, _∙_, subst}
+use mathlib.Core.Bool.{true, false}
 use mathlib.Core.List.{List, [], _∷_, _++_}
 use Prim.Native.Nat.{ℕ, _≤_, _<_}
 use native.Mathlib.Omega.{arith}
 use lib.Dec.{leb, lit<}
-use lib.ListN.{length, getD}
+use lib.ListN.{length, getD, take}
 use borrow.Author.Tests.{lt-ltb, le-leb, ltb-true, leb-true}
 use Rattle.logic.proofs.Tests.{by-test, and-both}
 use Rattle.fields.specs.declared.kind.Kind.the-variants.{ListRecord}
@@ -15,7 +15,8 @@ use Rattle.fields.specs.Packed.{Fit}
 use Rattle.fields.specs.Kinds.{widths}
 use Rattle.fields.specs.Records.{packed, valuesOf}
 use Rattle.fields.specs.Flows.{noFlow, among, keeps, rule, fieldsOf, flowWith, flowOf, packedFlow}
-use Rattle.fields.proofs.Records.{length-packed, values-short, values-packed, packed-values, values-fit}
+use Rattle.fields.proofs.Packed.{fit-length, six-values}
+use Rattle.fields.proofs.Records.{length-packed, values-short, values-packed, packed-front, values-fit}
 
 -- the rule, as orders
 pub record Keeps (f : Flow) : Type 0 where
@@ -64,6 +65,15 @@ pub rule-broken : (f : Flow) → (Keeps f → ⊥) → Broken ≡ rule f
 unfolding rule
 rule-broken f n = by-test (keeps f) (λ e. absurd (n (keeps-is f e))) (λ e. rw e)
 
+-- and what its answer says
+pub kept-keeps : (f : Flow) → rule f ≡ Kept → keeps f ≡ true
+unfolding rule
+kept-keeps f e = by-test (keeps f) (λ t. t) (λ t. let b : Broken ≡ Kept = rw t at e in let z : _≡_ {A = ℕ} 0 1 = cc in absurd (omega arith))
+
+pub broken-keeps : (f : Flow) → rule f ≡ Broken → keeps f ≡ false
+unfolding rule
+broken-keeps f e = by-test (keeps f) (λ t. let b : Kept ≡ Broken = rw t at e in let z : _≡_ {A = ℕ} 0 1 = cc in absurd (omega arith)) (λ t. t)
+
 -- ---- the record
 
 -- a flow that keeps its rule has fields that fit their widths
@@ -86,20 +96,14 @@ flow-packed f rest k = ap flowWith (values-packed ListRecord (fieldsOf f) rest (
 
 -- of six values of which the last two have no width, the first four are all
 pub four-values : (w x y z : ℕ) (vs : List ℕ) → Fit (w ∷ x ∷ y ∷ z ∷ 0 ∷ 0 ∷ []) vs → getD vs 0 0 ∷ getD vs 1 0 ∷ getD vs 2 0 ∷ getD vs 3 0 ∷ 0 ∷ 0 ∷ [] ≡ vs
-four-values w x y z (a ∷ b ∷ c ∷ d ∷ e ∷ g ∷ []) h =
-    let e₀ : e ≡ 0 = omega arith in
-    let g₀ : g ≡ 0 = omega arith in
-    rw (e₀, g₀)
-four-values w x y z [] h = absurd h
-four-values w x y z (a ∷ []) h = absurd (h .1)
-four-values w x y z (a ∷ b ∷ []) h = absurd (h .1 .1)
-four-values w x y z (a ∷ b ∷ c ∷ []) h = absurd (h .1 .1 .1)
-four-values w x y z (a ∷ b ∷ c ∷ d ∷ []) h = absurd (h .1 .1 .1 .1)
-four-values w x y z (a ∷ b ∷ c ∷ d ∷ e ∷ []) h = absurd (h .1 .1 .1 .1 .1)
-four-values w x y z (a ∷ b ∷ c ∷ d ∷ e ∷ g ∷ i ∷ vs) h = absurd (h .1 .1 .1 .1 .1 .1)
+four-values w x y z vs h =
+    let six = six-values vs (sym (fit-length (w ∷ x ∷ y ∷ z ∷ 0 ∷ 0 ∷ []) vs h)) in
+    let fit = subst (Fit (w ∷ x ∷ y ∷ z ∷ 0 ∷ 0 ∷ [])) (sym six) h in
+    let e : getD vs 4 0 ≡ 0 = omega (arith, fit .1 .1 .1 .1 .0) in
+    let g : getD vs 5 0 ≡ 0 = omega (arith, fit .1 .1 .1 .1 .1 .0) in
+    rw (e, g) at six
 
 -- and the bytes of a whole record are written back
-pub packed-flow : (s : List ℕ) → length s ≡ 6 → ((i : ℕ) → getD s i 0 < 256) → packedFlow (flowOf s) ≡ s
+pub packed-flow : (s : List ℕ) → 6 ≤ length s → ((i : ℕ) → getD s i 0 < 256) → packedFlow (flowOf s) ≡ take 6 s
 unfolding flowOf packedFlow
-packed-flow s l b =
-    ap (packed ListRecord) (four-values 10 12 13 13 (valuesOf ListRecord s) (values-fit ListRecord s (omega arith))) ∙ packed-values ListRecord s l b
+packed-flow s h b = ap (packed ListRecord) (four-values 10 12 13 13 (valuesOf ListRecord s) (values-fit ListRecord s h)) ∙ packed-front ListRecord s h b

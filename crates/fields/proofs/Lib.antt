@@ -3,5 +3,6 @@ pub mod Turns
 pub mod Widths
 pub mod Records
 pub mod Places
+pub mod Runs
 pub mod Flows
 pub mod Cases

@@ -102,6 +102,17 @@ fit-length [] (v ∷ vs) h = absurd h
 fit-length (w ∷ ws) [] h = absurd h
 fit-length (w ∷ ws) (v ∷ vs) h = ap suc (fit-length ws vs (h .1))
 
+-- six values, one by one
+pub six-values : (vs : List ℕ) → length vs ≡ 6 → getD vs 0 0 ∷ getD vs 1 0 ∷ getD vs 2 0 ∷ getD vs 3 0 ∷ getD vs 4 0 ∷ getD vs 5 0 ∷ [] ≡ vs
+six-values (a ∷ b ∷ c ∷ d ∷ e ∷ g ∷ []) h = refl
+six-values [] h = absurd (omega arith)
+six-values (a ∷ []) h = absurd (omega arith)
+six-values (a ∷ b ∷ []) h = absurd (omega arith)
+six-values (a ∷ b ∷ c ∷ []) h = absurd (omega arith)
+six-values (a ∷ b ∷ c ∷ d ∷ []) h = absurd (omega arith)
+six-values (a ∷ b ∷ c ∷ d ∷ e ∷ []) h = absurd (omega arith)
+six-values (a ∷ b ∷ c ∷ d ∷ e ∷ g ∷ i ∷ vs) h = absurd (omega arith)
+
 -- the test says what it is to say
 pub fits-fit : (ws vs : List ℕ) → fits ws vs ≡ true → Fit ws vs
 unfolding fits

@@ -1,12 +1,14 @@
 -- A record read and written, and its round trips for every kind of record. Assumes nothing.
-use mathlib.Core.Path.{_≡_, ap, ap₂, _∙_}
+use mathlib.Core.Path.{_≡_, sym, ap, ap₂, _∙_}
 use mathlib.Core.Bool.{true, false}
 use mathlib.Core.List.{List, _++_}
 use Prim.Native.Nat.{ℕ, _-_, _≤_, _<_}
 use native.Mathlib.Omega.{arith}
-use lib.ListN.{length, getD, take, drop, replicate, length-append}
-use lib.Seq.{take-all, take-at, length-take-le}
+use lib.Dec.{lit<}
+use lib.ListN.{length, getD, take, drop, replicate, length-append, length-take, List·getD-eq-default}
+use lib.Seq.{take-all, take-at, take-take, getD-take, length-take-le}
 use borrow.Author.Tests.{lt-ltb, le-ltb, lt-leb, le-leb}
+use Rattle.logic.proofs.Tests.{by-lt}
 use Rattle.fields.specs.declared.kind.Kind.{Kind}
 use Rattle.fields.specs.declared.record.Stored.{Stored}
 use Rattle.fields.specs.declared.record.Stored.the-variants.{Done, Wide, Short}
@@ -15,6 +17,13 @@ use Rattle.fields.specs.Kinds.{widths, bytes}
 use Rattle.fields.specs.Records.{packed, valuesOf, reading, stored, afterwards, roomAfter}
 use Rattle.fields.proofs.Packed.{unpack-pack, pack-unpack, length-pack, unpack-fit, fit-bytes}
 use Rattle.fields.proofs.Widths.{whole-bytes}
+
+-- a front of bytes is bytes
+bytes-take : (n : ℕ) (s : List ℕ) → ((i : ℕ) → getD s i 0 < 256) → (i : ℕ) → getD (take n s) i 0 < 256
+bytes-take n s b i =
+    by-lt i n
+    (λ h. rw (getD-take n s i 0 h) (b i))
+    (λ h. rw (List·getD-eq-default (take n s) 0 {n = i} (simp length-take (omega arith))) (lit< tt))
 
 module _ (kind : Kind) where
   -- ---- reading
@@ -101,3 +110,12 @@ module _ (kind : Kind) where
       let fit : Fit (eights (bytes kind)) s = rw l at (fit-bytes s b) in
       ap (pack (widths kind) (bytes kind)) (values-whole s (omega arith) ∙ ap (unpack (widths kind) (bytes kind)) (take-all (bytes kind) s (omega arith)))
       ∙ pack-unpack (widths kind) (bytes kind) s (whole-bytes kind) fit
+
+  -- the record at the front of bytes is written back
+  pub packed-front : (s : List ℕ) → bytes kind ≤ length s → ((i : ℕ) → getD s i 0 < 256) → packed kind (valuesOf kind s) ≡ take (bytes kind) s
+  packed-front s h b =
+      let front = take (bytes kind) s in
+      let l : length front ≡ bytes kind = length-take-le (bytes kind) s h in
+      let same : valuesOf kind front ≡ valuesOf kind s =
+      values-whole front (omega arith) ∙ ap (unpack (widths kind) (bytes kind)) (take-take (bytes kind) (bytes kind) s (omega arith)) ∙ sym (values-whole s h) in
+      ap (packed kind) (sym same) ∙ packed-values front l (bytes-take (bytes kind) s b)

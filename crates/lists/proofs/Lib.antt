@@ -1,3 +1,6 @@
 pub mod Records
+pub mod Turns
+pub mod Verdicts
 pub mod Cycle
 pub mod Accepted
+pub mod RoundTrip

@@ -1,9 +1,9 @@
 -- A record of a list, read and written at its place. Assumes nothing.
-use mathlib.Core.Path.{_≡_, sym, ap}
+use mathlib.Core.Path.{_≡_, refl, sym, ap, _∙_}
 use mathlib.Core.List.{List, _++_}
-use Prim.Native.Nat.{ℕ, _-_, _/_, _≤_}
+use Prim.Native.Nat.{ℕ, zero, suc, _+_, _-_, _/_, _≤_, _<_}
 use native.Mathlib.Omega.{arith}
-use lib.ListN.{length, take, drop, length-drop}
+use lib.ListN.{length, getD, take, drop, length-drop}
 use Rattle.fields.specs.declared.kind.Kind.the-variants.{ListRecord}
 use Rattle.fields.specs.declared.flow.Flow.{Flow}
 use Rattle.fields.specs.declared.record.Stored.{Stored}
@@ -12,7 +12,7 @@ use Rattle.fields.specs.Records.{stored, roomAfter}
 use Rattle.fields.specs.Flows.{noFlow, flowOf, fieldsOf}
 use Rattle.fields.proofs.Places.{part-to-end, ends-beyond, ends-part}
 use Rattle.fields.proofs.Flows.{flow-short}
-use Rattle.lists.specs.Lists.{place, flowAt, recordStored, recordAfter}
+use Rattle.lists.specs.Lists.{place, count, flowAt, flowsFrom, flowsOf, recordStored, recordAfter}
 
 -- ---- reading
 
@@ -23,6 +23,30 @@ flow-beyond l i h = sym (flow-short (drop (place i) l) (simp length-drop (omega 
 pub flow-part : (l : List ℕ) (i : ℕ) → flowOf (take (length l - place i) (drop (place i) l)) ≡ flowAt l i
 unfolding flowAt
 flow-part l i = ap flowOf (part-to-end (place i) l)
+
+-- ---- the flows of a list
+
+length-from : (l : List ℕ) (i n : ℕ) → length (flowsFrom l i n) ≡ n
+unfolding flowsFrom
+length-from l i zero = refl
+length-from l i (suc n) = ap suc (length-from l (suc i) n)
+
+at-from : (l : List ℕ) (i n j : ℕ) → j < n → getD (flowsFrom l i n) j noFlow ≡ flowAt l (i + j)
+unfolding flowsFrom
+at-from l i zero j h = absurd (omega arith)
+at-from l i (suc n) zero h = let e : i ≡ i + 0 = omega arith in ap (flowAt l) e
+at-from l i (suc n) (suc j) h =
+    let e : suc i + j ≡ i + suc j = omega arith in
+    at-from l (suc i) n j (omega arith) ∙ ap (flowAt l) e
+
+pub length-flows : (l : List ℕ) → length (flowsOf l) ≡ count l
+unfolding flowsOf
+length-flows l = length-from l 0 (count l)
+
+-- what the code reads at record i is flow i
+pub flow-is : (l : List ℕ) (i : ℕ) (f : Flow) → i < count l → f ≡ flowAt l i → f ≡ getD (flowsOf l) i noFlow
+unfolding flowsOf
+flow-is l i f h e = e ∙ let z : i ≡ 0 + i = omega arith in ap (flowAt l) z ∙ sym (at-from l 0 (count l) i h)
 
 -- ---- writing
 

@@ -2,3 +2,4 @@ pub mod Lists
 pub mod Facts
 pub mod Tests
 pub mod Accepted
+pub mod Parts

@@ -1,13 +1,17 @@
 // What a list's flows say together: cycle, frame, grants and load.
 ghost use mathlib.Core.Path.{_≡_};
-ghost use Prim.Native.Nat.{_/_, max, min};
 ghost use Rattle.lists.specs.Lists.{flowsOf};
 ghost use Rattle.lists.specs.Facts.{occupies, factsOf};
+ghost use Rattle.lists.specs.Parts.{spanOf, totalsOf};
+use crate::numbers::larger;
+use crate::numbers::smaller;
+use crate::numbers::times;
+use crate::numbers::wide;
 use crate::packed::count;
 use crate::packed::flow_at;
 use fields::Flow;
 
-// The largest and the smallest interval, the grants in a cycle and their slots.
+// The largest and the smallest interval, the grants in a cycle and the slots that they take.
 pub struct Facts {
     pub cycle: u16,
     pub frame: u16,
@@ -16,15 +20,15 @@ pub struct Facts {
 }
 
 // The largest and the smallest interval.
-struct Span {
-    cycle: u16,
-    frame: u16,
+pub struct Span {
+    pub cycle: u16,
+    pub frame: u16,
 }
 
-// The grants in a cycle and their slots.
-struct Totals {
-    grants: u64,
-    load: u64,
+// The grants in a cycle and the slots that they take.
+pub struct Totals {
+    pub grants: u64,
+    pub load: u64,
 }
 
 // The slots that each grant of the flow takes.
@@ -34,24 +38,55 @@ pub fn occupies(f: Flow) -> u16
     f.size
 }
 
-fn larger(a: u16, b: u16) -> u16
-    ensures { λ r. ⌜ r ≡ max a b ⌝ }
+// The list's cycle, frame, grants and load. Of a list that its tests refuse they are those of the records that are there.
+pub fn facts_of(list: &[u8]) -> Facts
+    ensures { λ r. ⌜ r ≡ factsOf (flowsOf (now (list .entry))) ⌝ }
 {
-    if a < b { b } else { a }
-}
-
-fn smaller(a: u16, b: u16) -> u16
-    ensures { λ r. ⌜ r ≡ min a b ⌝ }
-{
-    if a < b { a } else { b }
-}
-
-// How often the interval comes in the cycle; an interval of 0 never comes.
-fn times(cycle: u16, interval: u16) -> u16
-    ensures { λ r. ⌜ r ≡ cycle / interval ⌝ }
-{
-    if interval == 0 {
-        return 0;
+    let ends = span_of(list);
+    let cycle = ends.cycle;
+    let sums = totals_of(list, cycle);
+    Facts {
+        cycle: cycle,
+        frame: ends.frame,
+        grants: sums.grants,
+        load: sums.load,
     }
-    cycle / interval
+}
+
+// The largest and the smallest interval of the list.
+fn span_of(list: &[u8]) -> Span
+    ensures { λ r. ⌜ r ≡ spanOf (flowsOf (now (list .entry))) ⌝ }
+{
+    let n = count(list);
+    let mut cycle: u16 = 0;
+    let mut frame: u16 = 65535;
+    for i in 0..n {
+        let f = flow_at(list, i);
+        cycle = larger(cycle, f.interval);
+        frame = smaller(frame, f.interval);
+    }
+    Span {
+        cycle: cycle,
+        frame: smaller(frame, cycle),
+    }
+}
+
+// The grants of the list's flows in the cycle, and the slots that they take.
+fn totals_of(list: &[u8], cycle: u16) -> Totals
+    ensures { λ r. ⌜ r ≡ totalsOf cycle (flowsOf (now (list .entry))) ⌝ }
+{
+    let n = count(list);
+    let mut grants: u64 = 0;
+    let mut load: u64 = 0;
+    for i in 0..n {
+        let f = flow_at(list, i);
+        let k = wide(times(cycle, f.interval));
+        let s = wide(occupies(f));
+        grants = grants + k;
+        load = load + s * k;
+    }
+    Totals {
+        grants: grants,
+        load: load,
+    }
 }

@@ -1,12 +1,18 @@
 // A packed list of flows: its records, its tests 1 to 7, and its frame, cycle, grants and load.
 //
-// Every record is handed to the field reader as a part of the slice. No function asks anything of its caller.
+// Every record is handed to the field reader as a part of the slice. No public function asks anything of its caller.
 mod facts;
+mod numbers;
 mod packed;
+mod pairs;
+mod tests;
 
 pub use facts::Facts;
+pub use facts::facts_of;
 pub use facts::occupies;
 pub use packed::count;
 pub use packed::flow_at;
 pub use packed::write_head;
 pub use packed::write_record;
+pub use tests::tests_1_to_4;
+pub use tests::tests_1_to_7;

@@ -1,5 +1,6 @@
 // The head and the records of a packed list, read and written.
 ghost use mathlib.Core.Path.{_≡_};
+ghost use Prim.Native.Nat.{_<_};
 ghost use lib.ListN.{length};
 ghost use Rattle.fields.specs.declared.kind.Kind.the-variants.{ListHead};
 ghost use Rattle.fields.specs.Records.{stored, roomAfter};
@@ -10,7 +11,7 @@ use fields::Stored;
 
 // How many records the head says.
 pub fn count(list: &[u8]) -> usize
-    ensures { λ r. ⌜ r ≡ count (now (list .entry)) ⌝ }
+    ensures { λ r. ⌜ (r ≡ count (now (list .entry))) × (r < 65536) ⌝ }
 {
     let head = fields::read(Kind::ListHead, list);
     let values = head.values;

@@ -21,12 +21,17 @@ pub passed-both : (a b : Checked) → a ≡ Passed → b ≡ Passed → (a ⟫ b
 passed-both a b p q = rw (p, q)
 
 -- the first refuses, whatever follows
-pub refused-first : (a b : Checked) (r : Refusal) → a ≡ Refused r → (a ⟫ b) ≡ Refused r
-refused-first a b r e = rw e
+pub first-refuses : (a b : Checked) (r : Refusal) → a ≡ Refused r → Refused r ≡ (a ⟫ b)
+first-refuses a b r e = rw e
 
--- the first passes, and the next answers
-pub passed-first : (a b : Checked) → a ≡ Passed → (a ⟫ b) ≡ b
-passed-first a b e = rw e
+-- the first passes, and what follows answers
+pub first-passes : (a b c : Checked) → a ≡ Passed → c ≡ b → c ≡ (a ⟫ b)
+first-passes a b c e q = rw e q
+
+-- how a chain is bracketed does not matter
+pub chain-assoc : (a b c : Checked) → ((a ⟫ b) ⟫ c) ≡ (a ⟫ (b ⟫ c))
+chain-assoc Passed b c = refl
+chain-assoc (Refused r) b c = refl
 
 -- a test that names no place, both ways
 module _ (t : Bool) (r : Refusal) where

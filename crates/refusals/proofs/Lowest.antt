@@ -1,16 +1,13 @@
 -- The lowest place at which a test fails. Assumes nothing.
 use mathlib.Core.Path.{_≡_, refl}
 use mathlib.Core.Bool.{Bool, true, false}
-use mathlib.Core.List.{List, [], _∷_, map}
-use Prim.Native.Nat.{ℕ, zero, suc, _+_, _<_}
+use mathlib.Core.List.{List, [], _∷_}
+use Prim.Native.Nat.{ℕ, suc, _+_}
 use native.Mathlib.Numerals.{add-one}
-use native.Mathlib.Omega.{arith}
-use lib.ListN.{length, getD, drop}
-use lib.Seq.{drop-cons}
 use Rattle.logic.specs.Lists.{All}
 use Rattle.refusals.specs.declared.Refusal.{Refusal}
 use Rattle.refusals.specs.declared.Checked.the-variants.{Passed, Refused}
-use Rattle.refusals.specs.Tests.{lowest, against, after}
+use Rattle.refusals.specs.Tests.{lowest}
 use Rattle.refusals.proofs.Chains.{refused-not}
 
 -- every test passes
@@ -39,27 +36,3 @@ module _ (refusal : ℕ → Refusal) where
     pub lowest-here : t ≡ false → lowest refusal n (t ∷ ts) ≡ Refused (refusal n)
     unfolding lowest
     lowest-here e = rw (e, lowest)
-
--- the entries before place i, the nearest first
-abbrev pub before {ℓ} : {A : Type ℓ} → List A → A → ℕ → List A
-before xs d zero = []
-before xs d (suc i) = getD xs i d ∷ before xs d i
-
--- what a test against the entries before it says from entry i on
-pub against-next {ℓ} : {A : Type ℓ} (ok : List A → A → Bool) (xs : List A) (d : A) (i : ℕ) → i < length xs
-    → against ok (before xs d i) (drop i xs) ≡ ok (before xs d i) (getD xs i d) ∷ against ok (before xs d (suc i)) (drop (suc i) xs)
-unfolding against
-against-next ok xs d i h = rw (drop-cons xs i d, against)
-
--- a test that looks at no other entry
-pub against-alone {ℓ} : {A : Type ℓ} (ok : A → Bool) (seen xs : List A) → against (λ _ x. ok x) seen xs ≡ map ok xs
-unfolding against
-against-alone ok seen [] = refl
-against-alone ok seen (x ∷ xs) = rw (against-alone ok (x ∷ seen) xs)
-
--- a test against the entry before alone
-pub against-after {ℓ} : {A : Type ℓ} (ok : A → A → Bool) (y : A) (seen : List A) (x : A) (xs : List A)
-    → against (after ok) (y ∷ seen) (x ∷ xs) ≡ ok y x ∷ against (after ok) (x ∷ []) xs
-unfolding against after
-against-after ok y seen x [] = refl
-against-after ok y seen x (z ∷ xs) = rw (against-after ok x (y ∷ seen) z xs, against-after ok x [] z xs)

@@ -1,3 +1,4 @@
 pub mod Refusals
 pub mod Tests
+pub mod First
 pub mod Answers

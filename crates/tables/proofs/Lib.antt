@@ -1,3 +1,4 @@
 pub mod Records
 pub mod Walk
 pub mod Forms
+pub mod Windows

@@ -1,5 +1,5 @@
 -- A walk over the records of a table: what is left of it at record i, for each loop. Assumes nothing.
-use mathlib.Core.Path.{_≡_, refl, sym, ap, _∙_}
+use mathlib.Core.Path.{_≡_, refl, ap, _∙_}
 use mathlib.Core.Bool.{true, false}
 use mathlib.Core.List.{List, [], _∷_}
 use Prim.Native.Nat.{ℕ, zero, suc, _+_, _-_, _≤_, _<_}
@@ -10,7 +10,8 @@ use Rattle.refusals.specs.declared.Refusal.the-variants.{NotRising}
 use Rattle.refusals.specs.declared.Checked.{Checked}
 use Rattle.refusals.specs.declared.Checked.the-variants.{Passed, Refused}
 use Rattle.refusals.specs.Tests.{lowest, against, after}
-use Rattle.refusals.proofs.Lowest.{lowest-next, lowest-here, against-after}
+use Rattle.refusals.proofs.Lowest.{lowest-next, lowest-here}
+use Rattle.refusals.proofs.Walks.{against-after}
 use Rattle.tables.specs.declared.packed.Grant.{Grant}
 use Rattle.tables.specs.Tables.{grantAt, spareAt, grantsFrom}
 use Rattle.tables.specs.Form.{spared, rises, test12}

@@ -3,6 +3,7 @@
 // Every record is handed to the field reader as a part of the slice. No function asks anything of its caller.
 mod form;
 mod packed;
+mod stretch;
 
 pub use form::form_tests;
 pub use packed::Grant;
@@ -12,3 +13,5 @@ pub use packed::frame;
 pub use packed::grant_at;
 pub use packed::write_head;
 pub use packed::write_record;
+pub use stretch::window;
+pub use stretch::window_tests;

@@ -14,13 +14,6 @@ use Rattle.fields.proofs.Widths.{narrow}
 use Rattle.fields.proofs.Records.{ends-wide, ends-short, ends-put}
 use Rattle.fields.proofs.record.write.Statement.{statement}
 use Rattle.fields.proofs.record.write.Tie as tie
-use Rattle.fields.proofs.record.write.Reads as reads
-use Rattle.fields.proofs.record.write.Lts as lts
-use Rattle.fields.proofs.bits.all_fit.Reads as all-fit-reads
-use Rattle.fields.proofs.bits.joined.Reads as joined-reads
-use Rattle.fields.proofs.bits.put.Reads as put-reads
-use Rattle.fields.proofs.kind.Kind.bytes.Reads as bytes-reads
-use Rattle.fields.proofs.kind.Kind.widths.Reads as widths-reads
 
 bytes-requires : tie.Need-bytes-requires
 bytes-requires c κs = search needs

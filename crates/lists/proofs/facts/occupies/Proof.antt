@@ -4,8 +4,6 @@ use mathlib.Core.Path.{refl}
 use Rattle.lists.specs.Facts.{occupies}
 use Rattle.lists.proofs.facts.occupies.Statement.{statement}
 use Rattle.lists.proofs.facts.occupies.Tie as tie
-use Rattle.lists.proofs.facts.occupies.Reads as reads
-use Rattle.lists.proofs.facts.occupies.Lts as lts
 
 returns : tie.Need-returns
 unfolding occupies

@@ -5,10 +5,6 @@ use borrow.Author.Needs.{needs}
 use Rattle.lists.proofs.Records.{flow-beyond, flow-part}
 use Rattle.lists.proofs.packed.flow_at.Statement.{statement}
 use Rattle.lists.proofs.packed.flow_at.Tie as tie
-use Rattle.lists.proofs.packed.flow_at.Reads as reads
-use Rattle.lists.proofs.packed.flow_at.Lts as lts
-use Rattle.fields.proofs.flow.Flow.none.Reads as none-reads
-use Rattle.fields.proofs.read_flow.Reads as read-flow-reads
 
 none-requires : tie.Need-none-requires
 none-requires c κs = search needs

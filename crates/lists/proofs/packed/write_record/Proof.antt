@@ -4,9 +4,6 @@ use borrow.Author.Needs.{needs}
 use Rattle.lists.proofs.Records.{record-beyond, record-part}
 use Rattle.lists.proofs.packed.write_record.Statement.{statement}
 use Rattle.lists.proofs.packed.write_record.Tie as tie
-use Rattle.lists.proofs.packed.write_record.Reads as reads
-use Rattle.lists.proofs.packed.write_record.Lts as lts
-use Rattle.fields.proofs.write_flow.Reads as write-flow-reads
 
 returns : tie.Need-returns
 returns c =

@@ -5,8 +5,6 @@ use borrow.Author.Needs.{needs}
 use Rattle.refusals.specs.Refusals.{number}
 use Rattle.refusals.proofs.Refusal.number.Statement.{statement}
 use Rattle.refusals.proofs.Refusal.number.Tie as tie
-use Rattle.refusals.proofs.Refusal.number.Reads as reads
-use Rattle.refusals.proofs.Refusal.number.Lts as lts
 
 enum-told : tie.Need-enum-told
 enum-told c = search needs

@@ -5,8 +5,6 @@ use borrow.Author.Needs.{needs}
 use Rattle.refusals.specs.Refusals.{place}
 use Rattle.refusals.proofs.Refusal.place.Statement.{statement}
 use Rattle.refusals.proofs.Refusal.place.Tie as tie
-use Rattle.refusals.proofs.Refusal.place.Reads as reads
-use Rattle.refusals.proofs.Refusal.place.Lts as lts
 
 enum-told : tie.Need-enum-told
 enum-told c = search needs

@@ -2,14 +2,10 @@
 -- Assumes nothing.
 use mathlib.Core.Path.{sym, _∙_}
 use borrow.Author.Needs.{needs}
-use Rattle.refusals.proofs.Chains.{refused-first, passed-first}
+use Rattle.refusals.proofs.Chains.{first-refuses, first-passes}
 use Rattle.tables.specs.Form.{formTests}
 use Rattle.tables.proofs.form.form_tests.Statement.{statement}
 use Rattle.tables.proofs.form.form_tests.Tie as tie
-use Rattle.tables.proofs.form.form_tests.Reads as reads
-use Rattle.tables.proofs.form.form_tests.Lts as lts
-use Rattle.tables.proofs.form.test_11.Reads as test-11-reads
-use Rattle.tables.proofs.form.test_12.Reads as test-12-reads
 
 test-11-requires : tie.Need-test-11-requires
 test-11-requires c κs = search needs
@@ -19,7 +15,7 @@ enum-known-form c = search needs
 
 returns : tie.Need-returns
 unfolding formTests
-returns c = sym (refused-first _ _ _ (sym (c .before .before .before .test-11 .ensures) ∙ c .before .form .given .1))
+returns c = first-refuses _ _ _ (sym (c .before .before .before .test-11 .ensures) ∙ c .before .form .given .1)
 
 enum-told : tie.Need-enum-told
 enum-told c = search needs
@@ -29,7 +25,7 @@ test-12-requires c κs = search needs
 
 returns-2 : tie.Need-returns-2
 unfolding formTests
-returns-2 c = c .test-12 .ensures ∙ sym (passed-first _ _ (sym (c .before .before .before .test-11 .ensures) ∙ c .before .enum-told .given .1))
+returns-2 c = first-passes _ _ _ (sym (c .before .before .before .test-11 .ensures) ∙ c .before .enum-told .given .1) (c .test-12 .ensures)
 
 pub form-tests-spec : {M : Type 1} → statement M
 form-tests-spec =

@@ -1,6 +1,6 @@
 -- `tables::form::formed` meets its contract.
 -- Assumes nothing.
-use mathlib.Core.Path.{_≡_, sym, ap, _∙_}
+use mathlib.Core.Path.{sym, ap, _∙_}
 use native.Mathlib.Omega.{arith}
 use borrow.Author.Needs.{needs}
 use borrow.Author.Tests.{not-true, not-false}
@@ -9,11 +9,6 @@ use Rattle.tables.specs.Form.{spared}
 use Rattle.tables.proofs.Forms.{not-formed, formed-but-zeros}
 use Rattle.tables.proofs.form.formed.Statement.{statement}
 use Rattle.tables.proofs.form.formed.Tie as tie
-use Rattle.tables.proofs.form.formed.Reads as reads
-use Rattle.tables.proofs.form.formed.Lts as lts
-use Rattle.tables.proofs.form.headed.Reads as headed-reads
-use Rattle.tables.proofs.form.spared.Reads as spared-reads
-use Rattle.tables.proofs.packed.count.Reads as count-reads
 
 returns : tie.Need-returns
 returns c = not-formed (c .before .before .args .table .now) (λ f. omega arith)

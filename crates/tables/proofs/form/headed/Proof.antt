@@ -1,18 +1,14 @@
 -- `tables::form::headed` meets its contract.
 -- Assumes nothing.
-use mathlib.Core.Path.{_≡_, sym, ap, _∙_}
+use mathlib.Core.Path.{sym, ap, _∙_}
 use mathlib.Core.List.{List}
 use Prim.Native.Nat.{ℕ}
 use lib.Dec.{eqb}
 use lib.ListN.{getD}
 use borrow.Author.Needs.{needs}
-use Rattle.tables.specs.Tables.{headOf}
 use Rattle.tables.proofs.Forms.{headed-edition, headed-kind, headed-spare}
 use Rattle.tables.proofs.form.headed.Statement.{statement}
 use Rattle.tables.proofs.form.headed.Tie as tie
-use Rattle.tables.proofs.form.headed.Reads as reads
-use Rattle.tables.proofs.form.headed.Lts as lts
-use Rattle.tables.proofs.packed.head_of.Reads as head-of-reads
 
 head-of-requires : tie.Need-head-of-requires
 head-of-requires c κs = search needs

@@ -1,6 +1,6 @@
 -- `tables::form::spared` meets its contract.
 -- Assumes nothing.
-use mathlib.Core.Path.{_≡_, refl, sym, _∙_}
+use mathlib.Core.Path.{_≡_, sym, _∙_}
 use Prim.Native.Nat.{_-_}
 use native.Mathlib.Nat.{sub-zero}
 use native.Mathlib.Omega.{arith}
@@ -9,9 +9,6 @@ use Rattle.tables.specs.Form.{spared}
 use Rattle.tables.proofs.Walk.{spared-next, spared-stop, spared-end}
 use Rattle.tables.proofs.form.spared.Statement.{statement}
 use Rattle.tables.proofs.form.spared.Tie as tie
-use Rattle.tables.proofs.form.spared.Reads as reads
-use Rattle.tables.proofs.form.spared.Lts as lts
-use Rattle.tables.proofs.packed.spare_at.Reads as spare-at-reads
 
 abbrev Inv-loop : tie.InvT-loop
 Inv-loop table n i₀ i = spared table i (n - i) ≡ spared table 0 n

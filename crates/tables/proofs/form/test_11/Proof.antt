@@ -7,9 +7,6 @@ use Rattle.refusals.proofs.Chains.{unless-yes, unless-no}
 use Rattle.tables.specs.Form.{test11}
 use Rattle.tables.proofs.form.test_11.Statement.{statement}
 use Rattle.tables.proofs.form.test_11.Tie as tie
-use Rattle.tables.proofs.form.test_11.Reads as reads
-use Rattle.tables.proofs.form.test_11.Lts as lts
-use Rattle.tables.proofs.form.formed.Reads as formed-reads
 
 formed-requires : tie.Need-formed-requires
 formed-requires c κs = search needs

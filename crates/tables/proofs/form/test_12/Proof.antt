@@ -1,6 +1,6 @@
 -- `tables::form::test_12` meets its contract.
 -- Assumes nothing.
-use mathlib.Core.Path.{_≡_, refl, sym, ap, _∙_}
+use mathlib.Core.Path.{_≡_, sym, ap, _∙_}
 use Prim.Native.Nat.{ℕ, _-_}
 use native.Mathlib.Omega.{arith}
 use borrow.Author.Needs.{needs}
@@ -10,10 +10,6 @@ use Rattle.tables.specs.Form.{test12}
 use Rattle.tables.proofs.Walk.{risingFrom, rising-start, rising-next, rising-stop, rising-end}
 use Rattle.tables.proofs.form.test_12.Statement.{statement}
 use Rattle.tables.proofs.form.test_12.Tie as tie
-use Rattle.tables.proofs.form.test_12.Reads as reads
-use Rattle.tables.proofs.form.test_12.Lts as lts
-use Rattle.tables.proofs.packed.count.Reads as count-reads
-use Rattle.tables.proofs.packed.grant_at.Reads as grant-at-reads
 
 abbrev Inv-loop : tie.InvT-loop
 Inv-loop table n last₀ i₀ last i = risingFrom last table i n ≡ test12 (grantsFrom table 0 n)

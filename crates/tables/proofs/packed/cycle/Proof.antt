@@ -8,9 +8,6 @@ use borrow.Author.Needs.{needs}
 use Rattle.tables.specs.Tables.{cycleOf}
 use Rattle.tables.proofs.packed.cycle.Statement.{statement}
 use Rattle.tables.proofs.packed.cycle.Tie as tie
-use Rattle.tables.proofs.packed.cycle.Reads as reads
-use Rattle.tables.proofs.packed.cycle.Lts as lts
-use Rattle.tables.proofs.packed.head_of.Reads as head-of-reads
 
 head-of-requires : tie.Need-head-of-requires
 head-of-requires c κs = search needs

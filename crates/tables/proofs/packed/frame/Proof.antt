@@ -8,9 +8,6 @@ use borrow.Author.Needs.{needs}
 use Rattle.tables.specs.Tables.{frameOf}
 use Rattle.tables.proofs.packed.frame.Statement.{statement}
 use Rattle.tables.proofs.packed.frame.Tie as tie
-use Rattle.tables.proofs.packed.frame.Reads as reads
-use Rattle.tables.proofs.packed.frame.Lts as lts
-use Rattle.tables.proofs.packed.head_of.Reads as head-of-reads
 
 head-of-requires : tie.Need-head-of-requires
 head-of-requires c κs = search needs

@@ -5,9 +5,6 @@ use borrow.Author.Needs.{needs}
 use Rattle.tables.specs.Tables.{grantWith, grantAt}
 use Rattle.tables.proofs.packed.grant_at.Statement.{statement}
 use Rattle.tables.proofs.packed.grant_at.Tie as tie
-use Rattle.tables.proofs.packed.grant_at.Reads as reads
-use Rattle.tables.proofs.packed.grant_at.Lts as lts
-use Rattle.tables.proofs.packed.values_at.Reads as values-at-reads
 
 values-at-requires : tie.Need-values-at-requires
 values-at-requires c κs = search needs

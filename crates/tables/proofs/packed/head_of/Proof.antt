@@ -7,9 +7,6 @@ use Rattle.fields.specs.Records.{reading}
 use Rattle.tables.specs.Tables.{headOf}
 use Rattle.tables.proofs.packed.head_of.Statement.{statement}
 use Rattle.tables.proofs.packed.head_of.Tie as tie
-use Rattle.tables.proofs.packed.head_of.Reads as reads
-use Rattle.tables.proofs.packed.head_of.Lts as lts
-use Rattle.fields.proofs.read.Reads as read-reads
 
 read-requires : tie.Need-read-requires
 read-requires c κs = search needs

@@ -8,9 +8,6 @@ use borrow.Author.Needs.{needs}
 use Rattle.tables.specs.Tables.{spareAt}
 use Rattle.tables.proofs.packed.spare_at.Statement.{statement}
 use Rattle.tables.proofs.packed.spare_at.Tie as tie
-use Rattle.tables.proofs.packed.spare_at.Reads as reads
-use Rattle.tables.proofs.packed.spare_at.Lts as lts
-use Rattle.tables.proofs.packed.values_at.Reads as values-at-reads
 
 values-at-requires : tie.Need-values-at-requires
 values-at-requires c κs = search needs

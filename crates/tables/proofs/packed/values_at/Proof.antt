@@ -7,10 +7,6 @@ use Rattle.fields.specs.Records.{reading}
 use Rattle.tables.proofs.Records.{values-beyond, values-part}
 use Rattle.tables.proofs.packed.values_at.Statement.{statement}
 use Rattle.tables.proofs.packed.values_at.Tie as tie
-use Rattle.tables.proofs.packed.values_at.Reads as reads
-use Rattle.tables.proofs.packed.values_at.Lts as lts
-use Rattle.fields.proofs.read.Reads as read-reads
-use Rattle.tables.proofs.packed.whole_records.Reads as whole-records-reads
 
 whole-records-requires : tie.Need-whole-records-requires
 whole-records-requires c κs = search needs

@@ -4,10 +4,6 @@ use borrow.Author.Needs.{needs}
 use Rattle.tables.proofs.Records.{record-beyond, record-part}
 use Rattle.tables.proofs.packed.write_record.Statement.{statement}
 use Rattle.tables.proofs.packed.write_record.Tie as tie
-use Rattle.tables.proofs.packed.write_record.Reads as reads
-use Rattle.tables.proofs.packed.write_record.Lts as lts
-use Rattle.fields.proofs.write.Reads as write-reads
-use Rattle.tables.proofs.packed.whole_records.Reads as whole-records-reads
 
 whole-records-requires : tie.Need-whole-records-requires
 whole-records-requires c κs = search needs

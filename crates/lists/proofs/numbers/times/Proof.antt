@@ -1,12 +1,10 @@
--- `lists::facts::times` meets its contract.
+-- `lists::numbers::times` meets its contract.
 -- Assumes nothing.
 use mathlib.Core.Path.{sym}
 use native.Mathlib.Nat.{div-zero}
 use borrow.Author.Needs.{needs}
-use Rattle.lists.proofs.facts.times.Statement.{statement}
-use Rattle.lists.proofs.facts.times.Tie as tie
-use Rattle.lists.proofs.facts.times.Reads as reads
-use Rattle.lists.proofs.facts.times.Lts as lts
+use Rattle.lists.proofs.numbers.times.Statement.{statement}
+use Rattle.lists.proofs.numbers.times.Tie as tie
 
 returns : tie.Need-returns
 returns c = rw (c .if1 .taken) (sym (div-zero (c .before .args .cycle)))

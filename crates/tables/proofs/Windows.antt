@@ -1,0 +1,96 @@
+-- A window of a table: where it stands, and that it holds the grants that start in it and no other. Assumes nothing.
+use mathlib.Core.Path.{_≡_, refl, ap}
+use mathlib.Core.Bool.{_&&_}
+use mathlib.Core.List.{List, [], _∷_}
+use Prim.Native.Nat.{ℕ, zero, suc, _≤_, _<_, zero-le, suc-le-suc}
+use native.Mathlib.Omega.{arith}
+use lib.Dec.{leb}
+use lib.ListN.{length}
+use borrow.Author.Tests.{le-leb, lt-leb, lt-ltb, le-ltb, leb-true}
+use Rattle.logic.proofs.Tests.{by-lt, and-both}
+use Rattle.refusals.specs.declared.Refusal.{Refusal}
+use Rattle.refusals.specs.declared.Refusal.the-variants.{TableForm, WindowEnds}
+use Rattle.refusals.specs.declared.Checked.{Checked}
+use Rattle.refusals.specs.declared.Checked.the-variants.{Passed, Refused}
+use Rattle.refusals.proofs.Chains.{both-passed, unless-passed}
+use Rattle.tables.specs.declared.packed.Grant.{Grant}
+use Rattle.tables.specs.Tables.{cycleOf, count, place, grantsFrom, grantsOf}
+use Rattle.tables.specs.Form.{formed, test11, test12, formTests}
+use Rattle.tables.specs.Window.{test19, windowTests, before, edge}
+use Rattle.tables.proofs.Forms.{Formed, formed-is}
+
+-- ---- test 19
+
+module _ (t : List ℕ) (a b : ℕ) where
+  pub ends-crossed : b < a → Refused WindowEnds ≡ test19 t a b
+  unfolding test19
+  ends-crossed h = rw (lt-leb a b h)
+
+  pub ends-past : (k : ℕ) → k ≡ cycleOf t → a ≤ b → k < b → Refused WindowEnds ≡ test19 t a b
+  unfolding test19
+  ends-past k e h l = rw (le-leb a b h, lt-leb b (cycleOf t) (omega arith))
+
+  pub ends-good : (k : ℕ) → k ≡ cycleOf t → a ≤ b → b ≤ k → Passed ≡ test19 t a b
+  unfolding test19
+  ends-good k e h l = rw (le-leb a b h, le-leb b (cycleOf t) (omega arith))
+
+-- ---- the grants before a start
+
+pub before-le : (a : ℕ) (gs : List Grant) → before a gs ≤ length gs
+unfolding before
+before-le a [] = zero-le
+before-le a (g ∷ gs) = by-lt (g .start) a (λ h. rw (lt-ltb (g .start) a h) (suc-le-suc (before-le a gs))) (λ h. rw (le-ltb (g .start) a h) zero-le)
+
+-- a later end is no earlier
+pub before-mono : (a b : ℕ) (gs : List Grant) → a ≤ b → before a gs ≤ before b gs
+unfolding before
+before-mono a b [] h = zero-le
+before-mono a b (g ∷ gs) h =
+    by-lt (g .start) a
+    (λ l. rw (lt-ltb (g .start) a l, lt-ltb (g .start) b (omega arith)) (suc-le-suc (before-mono a b gs h)))
+    (λ l. rw (le-ltb (g .start) a l) zero-le)
+
+pub length-grants-from : (t : List ℕ) (i n : ℕ) → length (grantsFrom t i n) ≡ n
+unfolding grantsFrom
+length-grants-from t i zero = refl
+length-grants-from t i (suc n) = ap suc (length-grants-from t (suc i) n)
+
+-- ---- what the tests leave
+
+-- a table and a window that pass tests 11, 12 and 19
+pub record Lawful (t : List ℕ) (a b : ℕ) : Type 0 where
+  pub form : Formed t
+  pub rising : test12 (grantsOf t) ≡ Passed
+  pub ordered : a ≤ b
+  pub inside : b ≤ cycleOf t
+
+pub lawful : (t : List ℕ) (a b : ℕ) → windowTests t a b ≡ Passed → Lawful t a b
+unfolding windowTests formTests test11 test19
+lawful t a b e =
+    let both = both-passed (formTests t) (test19 t a b) e in
+    let form = both-passed (test11 t) (test12 (grantsOf t)) (both .0) in
+    let ends = and-both (leb a b) (leb b (cycleOf t)) (unless-passed (leb a b && leb b (cycleOf t)) WindowEnds (both .1)) in
+    record {
+      form = formed-is t (unless-passed (formed t) TableForm (form .0));
+      rising = form .1;
+      ordered = leb-true a b (ends .0);
+      inside = leb-true b (cycleOf t) (ends .1);
+    }
+
+-- the stretch stands in order inside the table
+pub lawful-edges : (t : List ℕ) (a b : ℕ) → Lawful t a b
+    → (before a (grantsOf t) ≤ before b (grantsOf t)) × (before b (grantsOf t) ≤ 1024) × (place (before b (grantsOf t)) ≤ length t)
+unfolding grantsOf
+lawful-edges t a b w =
+    let le = before-le b (grantsOf t) in
+    let len : length (grantsOf t) ≡ count t = length-grants-from t 0 (count t) in
+    (before-mono a b (grantsOf t) (w .ordered), omega (arith, w .form .count-le), omega (arith, w .form .exact))
+
+module _ (k : Checked) (t : List ℕ) (a : ℕ) where
+  pub edge-passed : k ≡ Passed → edge k t a ≡ place (before a (grantsOf t))
+  unfolding edge
+  edge-passed e = rw e
+
+  pub edge-refused : (r : Refusal) → k ≡ Refused r → edge k t a ≡ 0
+  unfolding edge
+  edge-refused r e = rw e
