@@ -4,3 +4,6 @@ pub mod Reaching
 pub mod Turns
 pub mod Writing
 pub mod Tabling
+pub mod Printing
+pub mod Answering
+pub mod Verdicts

@@ -2,3 +2,6 @@
 mod grants;
 mod groups;
 mod intervals;
+mod planning;
+
+pub use planning::plan;

@@ -23,7 +23,7 @@ count-requires : tie.Need-count-requires Inv-loop μ-loop
 count-requires c κs = search needs
 
 loop-holds : tie.Need-loop-holds Inv-loop μ-loop
-loop-holds c = (omega arith, c .count .ensures, refl, refl, ap (endCells _ _ 0 _ _ _ _) (rest-all _))
+loop-holds c = (omega arith, c .count .ensures .0, refl, refl, ap (endCells _ _ 0 _ _ _ _) (rest-all _))
 
 flow-at-requires : tie.Need-flow-at-requires Inv-loop μ-loop
 flow-at-requires c κs = search needs
