@@ -10,7 +10,7 @@ use lib.Dec.{ltb}
 use lib.ListN.{length, getD}
 use lib.Pow as P
 use lib.Pow.{pow-pos, shr-shr, high, low}
-use borrow.Author.Tests.{ltb-true}
+use borrow.Author.Tests.{lt-ltb, ltb-true}
 use Rattle.logic.proofs.Tests.{and-both, true-not-false}
 use Rattle.fields.specs.Packed.{total, joinFrom, join, split, eights, pack, unpack, Fit, fits}
 
@@ -122,6 +122,13 @@ fits-fit (w ∷ ws) [] h = true-not-false (sym h)
 fits-fit (w ∷ ws) (v ∷ vs) h =
     let both = and-both (ltb v (2 ^ w)) (fits ws vs) h in
     (ltb-true v (2 ^ w) (both .0), fits-fit ws vs (both .1))
+
+pub fit-fits : (ws vs : List ℕ) → Fit ws vs → fits ws vs ≡ true
+unfolding fits
+fit-fits [] [] h = refl
+fit-fits [] (v ∷ vs) h = absurd h
+fit-fits (w ∷ ws) [] h = absurd h
+fit-fits (w ∷ ws) (v ∷ vs) h = rw (lt-ltb v (2 ^ w) (h .0)) (fit-fits ws vs (h .1))
 
 -- ---- a record's bytes, for every list of widths that makes whole bytes: there and back, and back and there
 

@@ -7,6 +7,7 @@ use native.Mathlib.Nat.{mul-le-mul-right}
 use lib.ListN.{length}
 use Rattle.logic.specs.Lists.{All, sum}
 use Rattle.logic.proofs.Tests.{by-lt, by-order}
+use Rattle.logic.proofs.Members.{all-both}
 use Rattle.fields.specs.declared.flow.Flow.{Flow}
 use Rattle.lists.specs.Facts.{cycle}
 use Rattle.tables.specs.declared.packed.Grant.{Grant}
@@ -21,6 +22,11 @@ Chain fs a b (r ∷ rs) = (a ≤ r .start) × Chain fs (r .start + slots fs r) b
 chain-le : (fs : List Flow) (a b : ℕ) (rs : List Grant) → Chain fs a b rs → a ≤ b
 chain-le fs a b [] c = c
 chain-le fs a b (r ∷ rs) c = omega (arith, chain-le fs (r .start + slots fs r) b rs (c .1))
+
+-- from an earlier slot on
+pub chain-earlier : (fs : List Flow) (a c b : ℕ) (rs : List Grant) → a ≤ c → Chain fs c b rs → Chain fs a b rs
+chain-earlier fs a c b [] l h = omega arith
+chain-earlier fs a c b (r ∷ rs) l h = (omega arith, h .1)
 
 -- all that is granted fits between the ends
 pub chain-sum : (fs : List Flow) (a b : ℕ) (rs : List Grant) → Chain fs a b rs → a + sum (slots fs) rs ≤ b
@@ -46,6 +52,11 @@ chain-clear fs a b (r ∷ q ∷ rs) c = (c .1 .0, chain-clear fs (r .start + slo
 pub chain-inside : (fs : List Flow) (a b : ℕ) (tab : List Grant) → Chain fs a b tab → All (λ r. r .start + slots fs r ≤ b) tab
 chain-inside fs a b [] c = tt
 chain-inside fs a b (r ∷ rs) c = (chain-le fs (r .start + slots fs r) b rs (c .1), chain-inside fs (r .start + slots fs r) b rs (c .1))
+
+-- every grant that takes a slot starts before the end
+pub chain-before : (fs : List Flow) (a b : ℕ) (tab : List Grant) → All (λ r. 0 < slots fs r) tab → Chain fs a b tab → All (λ r. r .start < b) tab
+chain-before fs a b tab s c =
+    all-both (λ r. 0 < slots fs r) (λ r. r .start + slots fs r ≤ b) (λ r. r .start < b) tab (λ r p q. omega arith) s (chain-inside fs a b tab c)
 
 -- test 12 follows, since every grant takes a slot
 pub chain-rising : (fs : List Flow) (a b : ℕ) (tab : List Grant) → All (λ r. 0 < slots fs r) tab → Chain fs a b tab → Rising tab

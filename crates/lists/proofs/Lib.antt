@@ -4,3 +4,4 @@ pub mod Verdicts
 pub mod Cycle
 pub mod Accepted
 pub mod RoundTrip
+pub mod Writing

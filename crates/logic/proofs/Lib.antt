@@ -3,3 +3,4 @@ pub mod Members
 pub mod Sums
 pub mod Progressions
 pub mod Appends
+pub mod Rooms

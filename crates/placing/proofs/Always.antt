@@ -1,69 +1,36 @@
 -- Demand 3: a list that is tolerant and whose load fits in the cycle is planned. Assumes nothing.
 use mathlib.Core.Path.{_≡_, refl, sym, ap, _∙_}
-use mathlib.Core.Bool.{true, false}
 use mathlib.Core.List.{List, [], _∷_, List·Memᴰ·not-nil}
-use Prim.Native.Nat.{ℕ, zero, suc, _+_, _-_, _*_, _/_, _≤_, _<_, max}
+use Prim.Native.Nat.{ℕ, zero, suc, _+_, _-_, _*_, _/_, _≤_, _<_}
 use native.Mathlib.Omega.{arith}
 use native.Mathlib.Nat.{div-eq-of-eq-mul-left, le-of-mul-le-mul-left}
-use lib.Dec.{ltb, eqb}
-use lib.ListN.{length, length-map}
-use borrow.Author.Tests.{lt-ltb, le-ltb, eq-eqb}
-use Rattle.logic.specs.Lists.{All, sum}
-use Rattle.logic.proofs.Tests.{by-test, by-eq, by-order}
-use Rattle.logic.proofs.Members.{Mem, by-mem, all-mem, mem-all, all-each}
-use Rattle.logic.proofs.Sums.{sum-same, sum-add}
+use lib.Dec.{eqb}
+use lib.ListN.{length}
+use borrow.Author.Tests.{eq-eqb}
+use Rattle.logic.specs.Lists.{sum}
+use Rattle.logic.proofs.Tests.{by-test}
+use Rattle.logic.proofs.Members.{Mem, by-mem, all-mem, mem-all}
+use Rattle.logic.proofs.Sums.{sum-same}
 use Rattle.fields.specs.declared.flow.Flow.{Flow}
 use Rattle.lists.specs.Facts.{occupies, cycle, frame, grantsOf, load}
 use Rattle.lists.specs.Accepted.{Accepted}
 use Rattle.lists.proofs.Cycle.{occupies-pos, interval-pos, interval-divides, frame-in, frame-divides, divides-cycle}
 use Rattle.tables.specs.declared.packed.Grant.{Grant}
-use Rattle.law.proofs.Counting.{mark, mark-same, mark-other}
-use Rattle.placing.specs.declared.Found.the-variants.{At}
-use Rattle.placing.specs.Rule.{done, Settled, Frame, weight, content, olds, put, group, rep, opened, settle, groups, present, rising, intervals, layout, rows, planned}
+use Rattle.law.proofs.Counting.{mark}
+use Rattle.placing.specs.Rule.{done, Settled, Frame, weight, content, group, rep, opened, settle, groups, present, rising, intervals, layout, rows, planned}
 use Rattle.placing.specs.Tolerance.{largest, above, need, Tolerant}
 use Rattle.placing.proofs.Overhangs.{passing, Each, Spare}
-use Rattle.placing.proofs.Placed.{newly, Newly, Put, put-leaves}
-use Rattle.placing.proofs.Groups.{group-at, group-other, Grouped, group-leaves}
-use Rattle.placing.proofs.Layouts.{opened-olds, opened-length, opened-newly, opened-news, rep-length, rep-granted, rep-passing, rep-each, granted, settle-length, settle-passing, settle-each, settle-granted}
-use Rattle.placing.proofs.Ended.{olds-length, ended-wide, ended-granted}
-use Rattle.placing.proofs.Room.{Going, going, going-spare, each-less, Step, step}
-use Rattle.placing.proofs.Windows.{present-mem, mem-present, rising-present, rising-absent, groups-done}
+use Rattle.placing.proofs.Placed.{Newly}
+use Rattle.placing.proofs.Groups.{group-leaves}
+use Rattle.placing.proofs.Layouts.{opened-olds, opened-length, opened-newly, opened-news, rep-length, rep-granted, rep-passing, rep-each, granted, settle-passing, settle-each}
+use Rattle.placing.proofs.Ended.{ended-wide, ended-granted}
+use Rattle.placing.proofs.Room.{Going, going, going-spare, each-less}
+use Rattle.placing.proofs.Windows.{present-mem, rising-present, rising-absent, groups-done}
 use Rattle.placing.proofs.Passes.{planned-done}
+use Rattle.placing.proofs.Filled.{contents-split, filled}
+use Rattle.placing.proofs.Coming.{coming, coming-yes, load-next}
 
--- ---- one group
-
--- the slots in frames are those of the earlier grants and of the group's flows
-contents-split : (xs : List Frame) → sum content xs ≡ granted occupies (olds xs) + newly occupies xs
-unfolding sum content weight olds granted newly
-contents-split [] = refl
-contents-split (x ∷ xs) = omega (arith, contents-split xs)
-
--- all flows of interval i that push at most d have their places, if there is room for all
-pub filled : (φ d e i p : ℕ) (fs : List Flow) (xs : List Frame) → All (λ f. f .interval ≡ i → (0 < occupies f) × (occupies f ≤ d + 1)) fs
-    → Going φ d e 0 xs → passing φ 0 xs ≡ 0 → sum content xs + sum (λ f. mark (f .interval) i * occupies f) fs ≤ length xs * φ
-    → (ys : List Frame) × (group φ i p xs fs ≡ done ys) × Going φ d e 0 ys × (passing φ 0 ys ≡ 0)
-unfolding sum group
-filled φ d e i p [] xs a g z r = (xs, refl, g, z)
-filled φ d e i p (f ∷ fs) xs a g z r =
-    by-eq (f .interval) i
-    (λ q.
-    let m : mark (f .interval) i * occupies f ≡ occupies f = rw (mark-same (f .interval) i q) (omega arith) in
-    let s = step φ d e 0 0 f xs (a .0 q .0) (a .0 q .1) g z (omega arith) in
-    let n : 0 + s .0 ≡ s .0 = omega arith in
-    let w = s .1 .found ∙ ap At n in
-    let t = put-leaves (λ f. Unit) φ f (s .0) xs w in
-    let l : length (put f (s .0) xs) ≡ length xs = olds-length xs (put f (s .0) xs) (t .same) in
-    let y =
-    filled φ d e i (suc p) fs (put f (s .0) xs) (a .1) (s .1 .going) (s .1 .clear)
-    (rw l (omega (arith, contents-split xs, contents-split (put f (s .0) xs), ap (granted occupies) (t .same), t .added occupies))) in
-    (y .0, group-at φ i p (s .0) xs f fs q w ∙ y .1, y .2, y .3))
-    (λ q.
-    let m : mark (f .interval) i * occupies f ≡ 0 = rw (mark-other (f .interval) i q) (omega arith) in
-    let y = filled φ d e i (suc p) fs xs (a .1) g z (omega arith) in
-    (y .0, group-other φ i p xs f fs q ∙ y .1, y .2, y .3))
-
--- ---- the premise
-
+-- a flow is no larger than the largest of its interval
 occupies-largest : (fs : List Flow) (f : Flow) → Mem f fs → occupies f ≤ largest (f .interval) fs
 unfolding largest
 occupies-largest [] f m = absurd (List·Memᴰ·not-nil m)
@@ -73,42 +40,6 @@ occupies-largest (g ∷ fs) f m =
     (λ k.
     let ih = occupies-largest fs f k in
     by-test (eqb (g .interval) (f .interval)) (λ e. rw (e, largest) (omega arith)) (λ e. rw (e, largest) ih))
-
--- ---- the load that is still to come
-
-sum-times : (v : Flow → ℕ) (k : ℕ) (fs : List Flow) → sum (λ f. v f * k) fs ≡ sum v fs * k
-unfolding sum
-sum-times v k [] = omega arith
-sum-times v k (f ∷ fs) = omega (arith, sum-times v k fs)
-
--- the part of the load of cycle c that is of intervals above t
-unfoldable coming : ℕ → ℕ → Flow → ℕ
-coming c t f = elim (ltb t (f .interval)) [ true ↦ occupies f * grantsOf c f | false ↦ 0 ]
-
-coming-yes : (c t : ℕ) (f : Flow) → t < f .interval → coming c t f ≡ occupies f * grantsOf c f
-unfolding coming
-coming-yes c t f l = rw (lt-ltb t (f .interval) l, coming)
-
-coming-no : (c t : ℕ) (f : Flow) → f .interval ≤ t → coming c t f ≡ 0
-unfolding coming
-coming-no c t f l = rw (le-ltb t (f .interval) l, coming)
-
-coming-next : (c t : ℕ) (f : Flow) → coming c t f ≡ mark (f .interval) (suc t) * occupies f * (c / suc t) + coming c (suc t) f
-unfolding grantsOf
-coming-next c t f =
-    by-order (f .interval) (suc t)
-    (λ l. rw (coming-no c t f (omega arith), coming-no c (suc t) f (omega arith), mark-other (f .interval) (suc t) (λ q. omega arith)) (omega arith))
-    (λ q. rw (coming-yes c t f (omega arith), coming-no c (suc t) f (omega arith), mark-same (f .interval) (suc t) q) (rw q (omega arith)))
-    (λ l. rw (coming-yes c t f (omega arith), coming-yes c (suc t) f l, mark-other (f .interval) (suc t) (λ q. omega arith)) (omega arith))
-
-load-next : (c t : ℕ) (fs : List Flow) → sum (coming c t) fs ≡ sum (λ f. mark (f .interval) (suc t) * occupies f) fs * (c / suc t) + sum (coming c (suc t)) fs
-load-next c t fs =
-    sum-same (coming c t) (λ f. mark (f .interval) (suc t) * occupies f * (c / suc t) + coming c (suc t) f) fs
-    (all-each (λ f. coming c t f ≡ mark (f .interval) (suc t) * occupies f * (c / suc t) + coming c (suc t) f) fs (coming-next c t))
-    ∙ sum-add (λ f. mark (f .interval) (suc t) * occupies f * (c / suc t)) (coming c (suc t)) fs
-    ∙ omega (arith, sum-times (λ f. mark (f .interval) (suc t) * occupies f) (c / suc t) fs)
-
--- ---- all groups
 
 -- a layout of s slots, before the groups of the n lengths above t: each grant bears what those groups push, and their load fits
 record Bears (fs : List Flow) (t n s : ℕ) (hs : List (List Settled)) : Type 0 where
@@ -120,6 +51,7 @@ record Bears (fs : List Flow) (t n s : ℕ) (hs : List (List Settled)) : Type 0 
   round : rounds * s ≡ cycle fs
   fits : granted occupies hs * rounds + sum (coming (cycle fs) t) fs ≤ cycle fs
 
+-- the factors of a number that is not 0
 factors : (a b c : ℕ) → a * b ≡ c → 0 < c → (0 < a) × (0 < b)
 factors zero b c e h = absurd (omega arith)
 factors (suc a) zero c e h = absurd (omega arith)
@@ -146,24 +78,28 @@ module _ (fs : List Flow) (ok : Accepted fs) (tolerant : Tolerant fs) where
     abbrev q : ℕ
     q = cycle fs / i
 
+    -- the copies of the layout fill the window
     whole : k * s ≡ i
     whole = rw (← here) (b .divides g own (omega arith))
 
+    -- the windows fill the cycle
     round : q * i ≡ cycle fs
     round = rw (← here) (divides-cycle fs ok g own)
 
-    -- so many copies, each so often
+    -- the layout comes so often in the cycle
     times : b .rounds ≡ q * k
     times =
         let pos : 0 < s = factors k s i whole (omega arith) .1 in
         let c : cycle fs ≡ q * k * s = omega (arith, round, ap (λ (x : ℕ). q * x) whole) in
         sym (div-eq-of-eq-mul-left pos (sym (b .round))) ∙ div-eq-of-eq-mul-left pos c
 
+    -- the load of this window, and what is still to come, fit in the cycle
     fits : (k * granted occupies hs + slots) * q + sum (coming (cycle fs) i) fs ≤ cycle fs
     fits =
         let l : sum (coming (cycle fs) t) fs ≡ slots * q + sum (coming (cycle fs) i) fs = rw next (load-next (cycle fs) t fs) in
         omega (arith, b .fits, l, ap (λ (x : ℕ). granted occupies hs * x) times)
 
+    -- so this window has room for its flows
     room : k * granted occupies hs + slots ≤ i
     room =
         let h : q * (k * granted occupies hs + slots) ≤ q * i = omega (arith, fits, round) in
@@ -172,15 +108,18 @@ module _ (fs : List Flow) (ok : Accepted fs) (tolerant : Tolerant fs) where
     abbrev copies : List (List Settled)
     copies = rep k hs
 
+    -- the group is under way before its first flow
     under-way : Going φ d e 0 (opened copies)
     unfolding above
     under-way =
         let m : above fs t (suc n) ≡ d + e = rw next in
         going φ d e 0 0 (opened copies) (omega arith) (omega arith) (rep-each φ hs (b .clear) (Spare (d + e)) k (rw m at (b .spare)))
 
+    -- a flow of the group pushes at most d
     fit : (f : Flow) → Mem f fs → f .interval ≡ i → (0 < occupies f) × (occupies f ≤ d + 1)
     fit f m x = (occupies-pos fs ok f m, omega (arith, occupies-largest fs f m, ap (λ (x : ℕ). largest x fs) x))
 
+    -- and bears what later groups push
     bearing : (f : Flow) → Mem f fs → f .interval ≡ i → e ≤ f .jitter
     unfolding need
     bearing f m x =
@@ -222,6 +161,7 @@ module _ (fs : List Flow) (ok : Accepted fs) (tolerant : Tolerant fs) where
           },
         )
 
+  -- the groups of the n lengths above t
   always-groups : (n t s : ℕ) (hs : List (List Settled)) → t + n ≡ cycle fs → Bears fs t n s hs
       → (r : List (List Settled)) × (groups (frame fs) fs s hs (rising fs t n) ≡ done r)
   unfolding rising groups above
@@ -247,6 +187,7 @@ module _ (fs : List Flow) (ok : Accepted fs) (tolerant : Tolerant fs) where
       }) in
       (r .0, rw (rising-absent fs t n p) (r .1)))
 
+  -- a tolerant list whose load fits in the cycle is planned
   pub always-planned : load fs ≤ cycle fs → (gs : List Grant) × (planned fs ≡ done gs)
   unfolding layout intervals load granted sum opened passing content weight
   always-planned l =

@@ -8,7 +8,6 @@ use Rattle.logic.specs.Lists.{sum}
 use Rattle.fields.specs.declared.flow.Flow.{Flow}
 use Rattle.law.proofs.Counting.{mark}
 use Rattle.placing.specs.Rule.{Settled, Frame, olds, rep, opened, settle}
-use Rattle.placing.proofs.Placed.{newly}
 use Rattle.placing.proofs.Groups.{Grouped}
 use Rattle.placing.proofs.Layouts.{opened-olds, opened-length, opened-newly, rep-length, rep-granted, granted, settle-length, settle-granted}
 

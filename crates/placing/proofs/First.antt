@@ -11,9 +11,11 @@ use Rattle.fields.specs.declared.flow.Flow.{Flow}
 use Rattle.lists.specs.Facts.{occupies}
 use Rattle.placing.specs.declared.Found.{Found}
 use Rattle.placing.specs.declared.Found.the-variants.{At, Nowhere}
-use Rattle.placing.specs.Rule.{Frame, content, past, within, lawful, takes, firstLawful, contents, olds, put}
-use Rattle.placing.proofs.Overhangs.{passing, Each, Spare, spare-within, lawful-each}
+use Rattle.placing.specs.Rule.{done, Settled, Frame, content, past, lawful, takes, firstLawful, contents, olds, put, group, rep, opened}
+use Rattle.placing.proofs.Overhangs.{passing, Each, Spare, spare-within, lawful-each, each-lawful}
 use Rattle.placing.proofs.Placed.{takes-here, here-takes}
+use Rattle.placing.proofs.Groups.{group-ind}
+use Rattle.placing.proofs.Layouts.{rep-passing, rep-each}
 
 -- a frame that a window has not
 abbrev none : Frame
@@ -62,9 +64,28 @@ module _ (φ : ℕ) (f : Flow) where
   abbrev found : ℕ → ℕ → List Frame → Found
   found n o xs = firstLawful φ (occupies f) n o (contents xs) (olds xs)
 
-  search : (n o : ℕ) (xs : List Frame) → Each (Spare 0) φ o xs
-      → ((k : ℕ) × (found n o xs ≡ At (n + k)) × Lawful φ f o xs k × ((j : ℕ) → j < k → Lawful φ f o xs j → ⊥))
+  -- what the search comes to: the first lawful frame, or no frame is lawful
+  abbrev Searched : ℕ → ℕ → List Frame → Type 0
+  Searched n o xs =
+      ((k : ℕ) × (found n o xs ≡ At (n + k)) × Lawful φ f o xs k × ((j : ℕ) → j < k → Lawful φ f o xs j → ⊥))
       ⊎ ((found n o xs ≡ Nowhere) × ((j : ℕ) → Lawful φ f o xs j → ⊥))
+
+  module _ (n o : ℕ) (x : Frame) (xs : List Frame) (s : Spare 0 o (x .old)) (t : takes φ (occupies f) o (contents (x ∷ xs)) (olds (x ∷ xs)) ≡ false) where
+    next : found n o (x ∷ xs) ≡ found (suc n) (past φ o (content x)) xs
+    unfolding firstLawful contents olds
+    next = rw (t, firstLawful)
+
+    not-before : (k : ℕ) → ((j : ℕ) → j < k → Lawful φ f (past φ o (content x)) xs j → ⊥) → (j : ℕ) → j < suc k → Lawful φ f o (x ∷ xs) j → ⊥
+    not-before k a zero l w = true-not-false (sym (lawful-takes o x xs w) ∙ t)
+    not-before k a (suc j) l w = a j (omega arith) (earlier o x xs s j w)
+
+    passed : Searched (suc n) (past φ o (content x)) xs → Searched n o (x ∷ xs)
+    passed (inl y) =
+        let m : suc n + y .0 ≡ n + suc (y .0) = omega arith in
+        inl (suc (y .0), next ∙ y .1 ∙ ap At m, later o x xs s (y .0) (y .2), not-before (y .0) (y .3))
+    passed (inr y) = inr (next ∙ y .0, λ j. not-before j (λ i l. y .1 i) j (omega arith))
+
+  search : (n o : ℕ) (xs : List Frame) → Each (Spare 0) φ o xs → Searched n o xs
   unfolding firstLawful contents olds
   search n o [] s = inr (refl, λ j l. omega (arith, l .frame))
   search n o (x ∷ xs) s =
@@ -72,23 +93,7 @@ module _ (φ : ℕ) (f : Flow) where
       (λ t.
       let m : n ≡ n + 0 = omega arith in
       inl (0, rw (t, firstLawful) (ap At m), takes-lawful o x xs t, λ j l. absurd (omega arith)))
-      (λ t.
-      let step : found n o (x ∷ xs) ≡ found (suc n) (past φ o (content x)) xs = rw (t, firstLawful) in
-      let not : Lawful φ f o (x ∷ xs) 0 → ⊥ = λ l. true-not-false (sym (lawful-takes o x xs l) ∙ t) in
-      ⊎-elim
-      (λ y.
-      let m : suc n + y .0 ≡ n + suc (y .0) = omega arith in
-      inl (suc (y .0), step ∙ y .1 ∙ ap At m, later o x xs (s .0) (y .0) (y .2), upto not (y .0) (λ j l w. y .3 j l (earlier o x xs (s .0) j w))))
-      (λ y. inr (step ∙ y .0, all not (λ j w. y .1 j (earlier o x xs (s .0) j w))))
-      (search (suc n) (past φ o (content x)) xs (s .1)))
-    where
-      upto : (Lawful φ f o (x ∷ xs) 0 → ⊥) → (k : ℕ) → ((j : ℕ) → j < k → Lawful φ f o (x ∷ xs) (suc j) → ⊥) → (j : ℕ) → j < suc k → Lawful φ f o (x ∷ xs) j → ⊥
-      upto z k a zero l w = z w
-      upto z k a (suc j) l w = a j (omega arith) w
-
-      all : (Lawful φ f o (x ∷ xs) 0 → ⊥) → ((j : ℕ) → Lawful φ f o (x ∷ xs) (suc j) → ⊥) → (j : ℕ) → Lawful φ f o (x ∷ xs) j → ⊥
-      all z a zero w = z w
-      all z a (suc j) w = a j w
+      (λ t. passed n o x xs (s .0) t (search (suc n) (past φ o (content x)) xs (s .1)))
 
   -- in a window that is lawful before, the flow stays in the first lawful frame, and is refused where there is none
   module _ (xs : List Frame) (before : lawful φ 0 (contents xs) (olds xs) ≡ true) where
@@ -116,3 +121,22 @@ module _ (φ : ℕ) (f : Flow) where
         (λ y. (λ e. absurd (at-nowhere (sym (y .1) ∙ e)), λ n. absurd (n (y .0) (y .2 .0))))
         (λ y. (λ e. y .1, λ n. y .0))
         searched
+
+-- the window in which a group's first flow is tried is lawful
+pub copies-lawful : (φ m : ℕ) (hs : List (List Settled)) → passing φ 0 (opened hs) ≡ 0 → Each (Spare 0) φ 0 (opened hs)
+    → lawful φ 0 (contents (opened (rep m hs))) (olds (opened (rep m hs))) ≡ true
+copies-lawful φ m hs z s = each-lawful 0 φ 0 (opened (rep m hs)) (rep-passing φ hs z m) (rep-each φ hs z (Spare 0) m s)
+
+-- the flows of interval i among fs, one after the other, each in its first lawful frame: the frames are xs before and ys after
+abbrev pub Placing : ℕ → ℕ → List Flow → List Frame → List Frame → Type 0
+Placing φ i [] xs ys = xs ≡ ys
+Placing φ i (f ∷ fs) xs ys =
+    ((f .interval ≡ i) × ((k : ℕ) × First φ f xs k × Placing φ i fs (put f k xs) ys)) ⊎ ((f .interval ≡ i → ⊥) × Placing φ i fs xs ys)
+
+-- so a group is placed
+pub group-first : (φ i p : ℕ) (fs : List Flow) (xs ys : List Frame) → group φ i p xs fs ≡ done ys → lawful φ 0 (contents xs) (olds xs) ≡ true → Placing φ i fs xs ys
+group-first φ i =
+    group-ind φ i (λ fs xs ys. lawful φ 0 (contents xs) (olds xs) ≡ true → Placing φ i fs xs ys)
+    (λ xs l. refl)
+    (λ k f fs xs ys e w ih l. let first = found-first φ f xs l k .0 w in inl (e, (k, first, ih (first .0 .whole))))
+    (λ f fs xs ys e ih l. inr (e, ih l))

@@ -1,14 +1,12 @@
 -- The flows of one interval, placed one after the other. Assumes nothing.
 use mathlib.Core.Path.{_≡_, refl, sym, ap, _∙_, subst}
-use mathlib.Core.Bool.{true, false}
 use mathlib.Core.List.{List, [], _∷_}
 use Prim.Native.Nat.{ℕ, suc, _+_, _*_, _≤_, _<_}
 use native.Mathlib.Omega.{arith}
-use lib.Dec.{eqb}
 use lib.ListN.{length}
-use borrow.Author.Tests.{eqb-true, eqb-false, eq-eqb, ne-eqb}
+use borrow.Author.Tests.{eq-eqb, ne-eqb}
 use Rattle.logic.specs.Lists.{All, sum}
-use Rattle.logic.proofs.Tests.{by-test, by-eq}
+use Rattle.logic.proofs.Tests.{by-eq}
 use Rattle.fields.specs.declared.flow.Flow.{Flow}
 use Rattle.lists.specs.Facts.{occupies}
 use Rattle.law.proofs.Counting.{mark, mark-same, mark-other}
@@ -16,7 +14,7 @@ use Rattle.placing.specs.declared.Found.{Found}
 use Rattle.placing.specs.declared.Found.the-variants.{At, Nowhere}
 use Rattle.placing.specs.Rule.{Outcome, done, refused, Frame, firstLawful, contents, olds, put, group}
 use Rattle.placing.proofs.Overhangs.{passing, Each, Spare, Based}
-use Rattle.placing.proofs.Placed.{newly, Newly, Put, put-leaves}
+use Rattle.placing.proofs.Placed.{newly, Newly, put-leaves}
 
 -- ---- the three ways of a step
 

@@ -1,7 +1,7 @@
 -- A layout repeated, and a layout when a group ends. Assumes nothing.
 use mathlib.Core.Path.{_≡_, refl, ap, _∙_}
-use mathlib.Core.List.{List, [], _∷_, _++_, map}
-use Prim.Native.Nat.{ℕ, zero, suc, _+_, _-_, _*_, _≤_}
+use mathlib.Core.List.{List, [], _∷_, _++_, map, map-append}
+use Prim.Native.Nat.{ℕ, zero, suc, _+_, _*_}
 use native.Mathlib.Omega.{arith}
 use lib.ListN.{length, length-append, length-map}
 use Rattle.logic.specs.Lists.{All, sum}
@@ -22,8 +22,7 @@ content-unfilled h = omega arith
 
 opened-append : (gs hs : List (List Settled)) → opened (gs ++ hs) ≡ opened gs ++ opened hs
 unfolding opened
-opened-append [] hs = refl
-opened-append (g ∷ gs) hs = ap (λ (xs : List Frame). unfilled g ∷ xs) (opened-append gs hs)
+opened-append = map-append unfilled
 
 pub opened-olds : (hs : List (List Settled)) → olds (opened hs) ≡ hs
 unfolding opened olds

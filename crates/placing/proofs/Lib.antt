@@ -10,5 +10,8 @@ pub mod Windows
 pub mod Standing
 pub mod Passes
 pub mod Room
+pub mod Filled
+pub mod Coming
 pub mod Always
 pub mod First
+pub mod Sanity

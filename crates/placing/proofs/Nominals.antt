@@ -1,15 +1,15 @@
 -- The nominal times of one flow in a layout. Assumes nothing.
-use mathlib.Core.Path.{_≡_, refl, sym, ap, _∙_}
+use mathlib.Core.Path.{_≡_, refl, sym, ap}
 use mathlib.Core.Bool.{true, false}
-use mathlib.Core.List.{List, [], _∷_, _++_, map, append-assoc, append-nil}
-use Prim.Native.Nat.{ℕ, zero, suc, _+_, _-_, _*_, _≤_, _<_}
+use mathlib.Core.List.{List, [], _∷_, _++_, map, append-assoc, map-append}
+use Prim.Native.Nat.{ℕ, zero, suc, _+_, _*_}
 use native.Mathlib.Omega.{arith}
 use lib.Dec.{eqb}
 use lib.ListN.{length, length-append}
 use borrow.Author.Tests.{eq-eqb, ne-eqb}
-use Rattle.logic.specs.Lists.{All, sum}
+use Rattle.logic.specs.Lists.{sum}
 use Rattle.logic.proofs.Tests.{by-test, by-eq}
-use Rattle.logic.proofs.Progressions.{progression}
+use Rattle.logic.proofs.Progressions.{progression, later, progression-later, progression-append}
 use Rattle.fields.specs.declared.flow.Flow.{Flow}
 use Rattle.lists.specs.Facts.{occupies}
 use Rattle.law.proofs.Counting.{mark, mark-same, mark-other}
@@ -49,21 +49,7 @@ nominals-length φ n a [] = refl
 nominals-length φ n a (h ∷ hs) =
     omega (arith, length-append (nominalsIn n a h) (nominals φ n (a + φ) hs), in-length n a h, nominals-length φ n (a + φ) hs)
 
-pub nominals-none : (φ n : ℕ) (hs : List (List Settled)) → granted (numbered n) hs ≡ 0 → nominals φ n 0 hs ≡ []
-nominals-none φ n hs e = none (nominals φ n 0 hs) (nominals-length φ n 0 hs ∙ e)
-  where
-    none : (ts : List ℕ) → length ts ≡ 0 → ts ≡ []
-    none [] e = refl
-    none (t ∷ ts) e = absurd (omega arith)
-
 -- ---- a layout later by d, and one behind another
-
-abbrev later : ℕ → List ℕ → List ℕ
-later d ts = map (λ t. t + d) ts
-
-later-append : (d : ℕ) (ss ts : List ℕ) → later d (ss ++ ts) ≡ later d ss ++ later d ts
-later-append d [] ts = refl
-later-append d (s ∷ ss) ts = ap (λ (l : List ℕ). (s + d) ∷ l) (later-append d ss ts)
 
 in-later : (n a d : ℕ) (h : List Settled) → nominalsIn n (a + d) h ≡ later d (nominalsIn n a h)
 unfolding nominalsIn
@@ -81,7 +67,7 @@ unfolding nominals
 nominals-later φ n a d [] = refl
 nominals-later φ n a d (h ∷ hs) =
     let e : a + d + φ ≡ a + φ + d = omega arith in
-    rw (e, in-later n a d h, nominals-later φ n (a + φ) d hs) (sym (later-append d (nominalsIn n a h) (nominals φ n (a + φ) hs)))
+    rw (e, in-later n a d h, nominals-later φ n (a + φ) d hs) (sym (map-append (λ t. t + d) (nominalsIn n a h) (nominals φ n (a + φ) hs)))
 
 nominals-append : (φ n a : ℕ) (gs hs : List (List Settled)) → nominals φ n a (gs ++ hs) ≡ nominals φ n a gs ++ nominals φ n (a + length gs * φ) hs
 unfolding nominals
@@ -90,27 +76,7 @@ nominals-append φ n a (g ∷ gs) hs =
     let e : a + length (g ∷ gs) * φ ≡ a + φ + length gs * φ = omega arith in
     rw (e, nominals-append φ n (a + φ) gs hs) (sym (append-assoc (nominalsIn n a g) (nominals φ n (a + φ) gs) (nominals φ n (a + φ + length gs * φ) hs)))
 
--- ---- equal steps go on
-
-progression-later : (d t i n : ℕ) → later d (progression t i n) ≡ progression (t + d) i n
-unfolding progression
-progression-later d t i zero = refl
-progression-later d t i (suc n) =
-    let e : t + d + i ≡ t + i + d = omega arith in
-    rw e (ap (λ (l : List ℕ). (t + d) ∷ l) (progression-later d (t + i) i n))
-
-progression-append : (t i n m : ℕ) → progression t i n ++ progression (t + n * i) i m ≡ progression t i (n + m)
-unfolding progression
-progression-append t i zero m =
-    let e : t + 0 * i ≡ t = omega arith in
-    let k : 0 + m ≡ m = omega arith in
-    rw (e, k)
-progression-append t i (suc n) m =
-    let e : t + suc n * i ≡ t + i + n * i = omega arith in
-    let k : suc n + m ≡ suc (n + m) = omega arith in
-    rw (e, k) (ap (λ (l : List ℕ). t ∷ l) (progression-append (t + i) i n m))
-
--- in a repeated layout
+-- equal steps go on in a repeated layout
 pub nominals-rep : (φ n a t i k m : ℕ) (hs : List (List Settled)) → nominals φ n a hs ≡ progression t i k → k * i ≡ length hs * φ
     → nominals φ n a (rep m hs) ≡ progression t i (m * k)
 unfolding rep nominals progression

@@ -1,8 +1,8 @@
 -- The planner's grants pass tests 12 and 14 to 18; they are as many as the list's, and each fits its record. Assumes nothing.
-use mathlib.Core.Path.{_≡_, refl, sym, ap, _∙_, subst}
+use mathlib.Core.Path.{_≡_, sym, ap, _∙_, subst}
 use mathlib.Core.Bool.{true}
 use mathlib.Core.List.{List, [], _∷_}
-use Prim.Native.Nat.{ℕ, _+_, _-_, _*_, _/_, _≤_, _<_}
+use Prim.Native.Nat.{ℕ, _+_, _/_, _≤_, _<_}
 use native.Mathlib.Omega.{arith}
 use native.Mathlib.Nat.{div-eq-of-eq-mul-left}
 use lib.ListN.{length, length-map}
@@ -11,22 +11,21 @@ use Rattle.logic.proofs.Members.{Mem, mem-all, all-imp, all-both}
 use Rattle.logic.proofs.Progressions.{progression, progression-length}
 use Rattle.fields.specs.declared.flow.Flow.{Flow}
 use Rattle.refusals.specs.declared.Checked.the-variants.{Passed}
-use Rattle.lists.specs.Facts.{occupies, cycle, frame, grantsOf, grants}
+use Rattle.lists.specs.Facts.{cycle, frame, grantsOf, grants}
 use Rattle.lists.specs.Accepted.{Accepted}
-use Rattle.lists.proofs.Cycle.{kept, cycle-le, occupies-pos, interval-pos, cycle-in}
+use Rattle.lists.proofs.Cycle.{kept, cycle-le, interval-pos, cycle-in}
 use Rattle.tables.specs.declared.packed.Grant.{Grant}
 use Rattle.tables.specs.Form.{test12}
 use Rattle.law.specs.Check.{known, look, slots, nominal, to, last, tests14to18}
-use Rattle.law.proofs.Listed.{known-mem, slots-pos}
-use Rattle.law.proofs.Chains.{Chain, chain-clear, chain-inside, chain-rising}
+use Rattle.law.proofs.Listed.{known-mem}
+use Rattle.law.proofs.Chains.{Chain, chain-earlier, chain-clear, chain-inside, chain-before, chain-rising}
 use Rattle.law.proofs.Times.{Punctual, times, progression-first, times-pass}
 use Rattle.law.proofs.Reading.{Reads, reads12, passes-reads}
 use Rattle.law.proofs.Oversold.{passes-length}
-use Rattle.placing.specs.Rule.{Outcome, done, refused, Settled, opened, intervals, layout, rows, planned}
-use Rattle.placing.proofs.Overhangs.{passing}
-use Rattle.placing.proofs.Tables.{Timed, rows-times, rows-timed, rows-chain}
+use Rattle.placing.specs.Rule.{Outcome, done, refused, Settled, intervals, layout, rows, planned}
+use Rattle.placing.proofs.Tables.{Timed, timed-listed, timed-slots, rows-times, rows-timed, rows-chain}
 use Rattle.placing.proofs.Windows.{by-outcome, done-not-refused, groups-place}
-use Rattle.placing.proofs.Standing.{Steps, Stands, stands}
+use Rattle.placing.proofs.Standing.{Stands, stands}
 
 -- ---- the grants come from a layout, and so does the refused place
 
@@ -58,6 +57,7 @@ refused-place fs p e =
 -- ---- the tests
 
 module _ (fs : List Flow) (ok : Accepted fs) (gs : List Grant) (plan : planned fs ≡ done gs) where
+  -- their layout
   hs : List (List Settled)
   hs = planned-layout fs gs plan .0
 
@@ -69,16 +69,18 @@ module _ (fs : List Flow) (ok : Accepted fs) (gs : List Grant) (plan : planned f
   unfolding hs
   are = sym (planned-layout fs gs plan .2)
 
-  timed : All (Timed fs (ok .distinct)) gs
-  timed = subst (All (Timed fs (ok .distinct))) are (rows-timed fs (ok .distinct) (frame fs) 0 0 hs (stand .based) (stand .spare))
+  -- each is a listed flow's, and late neither over its jitter nor over its start
+  timed : All (Timed fs) gs
+  timed = subst (All (Timed fs)) are (rows-timed fs ok (frame fs) 0 0 hs (stand .based) (stand .spare))
 
   listed : All (λ r. known fs (r .flow) ≡ true) gs
-  listed = all-imp (Timed fs (ok .distinct)) (λ r. known fs (r .flow) ≡ true) gs (λ r p. p .0) timed
+  listed = timed-listed fs ok gs timed
 
+  -- they stand one after another, from 0 to the cycle
   chain : Chain fs 0 (cycle fs) gs
   chain =
-      let b : 0 + length hs * frame fs + passing (frame fs) 0 (opened hs) ≡ cycle fs = omega (arith, stand .wide, stand .clear) in
-      subst (λ (c : ℕ). Chain fs 0 c gs) b (subst (Chain fs (0 + 0) (0 + length hs * frame fs + passing (frame fs) 0 (opened hs))) are (rows-chain fs (ok .distinct) (frame fs) 0 0 hs (stand .based)))
+      chain-earlier fs 0 (0 + 0) (cycle fs) gs (omega arith)
+      (subst (Chain fs (0 + 0) (cycle fs)) are (rows-chain fs ok (frame fs) 0 0 (cycle fs) hs (stand .based) (omega (arith, stand .wide, stand .clear))))
 
   -- a flow's nominal times step by its interval, cycle / interval of them, the first below the interval
   pub planned-steps : (f : Flow) → Mem f fs → (t : ℕ) × (t < f .interval) × (times 0 (f .number) gs ≡ progression t (f .interval) (grantsOf (cycle fs) f))
@@ -88,6 +90,7 @@ module _ (fs : List Flow) (ok : Accepted fs) (gs : List Grant) (plan : planned f
       let n : cycle fs / f .interval ≡ s .rounds = div-eq-of-eq-mul-left (interval-pos fs ok f m) (sym (s .fills ∙ stand .wide)) in
       (s .first, s .early, rw n (ap (times 0 (f .number)) (sym are) ∙ rows-times (λ f. Mem f fs) (frame fs) (f .number) 0 0 hs (stand .based) ∙ s .times))
 
+  -- tests 14 to 18, each as a fact
   reads : Reads fs gs
   unfolding last
   reads =
@@ -101,7 +104,7 @@ module _ (fs : List Flow) (ok : Accepted fs) (gs : List Grant) (plan : planned f
         timely =
             times-pass 0 fs (ok .distinct) [] gs listed
             (record {
-              punctual = all-imp (Timed fs (ok .distinct)) (Punctual 0 fs) gs (λ r p. p .1) timed;
+              punctual = all-imp (Timed fs) (Punctual 0 fs) gs (λ r p. p .1) timed;
               follows = λ f m. let p = planned-steps f m in rw (p .2) (progression-first (f .interval) (p .0) (grantsOf (cycle fs) f) (p .1));
             });
         clear = chain-clear fs 0 (cycle fs) gs chain;
@@ -109,7 +112,7 @@ module _ (fs : List Flow) (ok : Accepted fs) (gs : List Grant) (plan : planned f
       }
 
   slotted : All (λ r. 0 < slots fs r) gs
-  slotted = slots-pos fs gs (mem-all (λ f. 0 < occupies f) fs (occupies-pos fs ok)) listed
+  slotted = timed-slots fs ok gs timed
 
   -- the planner's grants pass the check
   pub planned-passes : (test12 gs ≡ Passed) × (tests14to18 fs gs ≡ Passed)
@@ -122,14 +125,12 @@ module _ (fs : List Flow) (ok : Accepted fs) (gs : List Grant) (plan : planned f
   -- each is a listed flow's, and fits its record
   pub planned-fits : All (λ r. (known fs (r .flow) ≡ true) × (r .flow < 1024) × (r .start < cycle fs) × (r .late < 4096)) gs
   planned-fits =
-      all-both (Timed fs (ok .distinct)) (λ r. (0 < slots fs r) × (r .start + slots fs r ≤ cycle fs))
-      (λ r. (known fs (r .flow) ≡ true) × (r .flow < 1024) × (r .start < cycle fs) × (r .late < 4096)) gs
+      all-both (Timed fs) (λ r. r .start < cycle fs) (λ r. (known fs (r .flow) ≡ true) × (r .flow < 1024) × (r .start < cycle fs) × (r .late < 4096)) gs
       (λ r p q.
       let m = known-mem fs (r .flow) (p .0) in
       let k = kept fs ok (look fs (r .flow)) (m .0) in
-      (p .0, omega (arith, m .1, k .number-le), omega arith, omega (arith, k .tolerable, k .interval-le)))
-      timed
-      (all-both (λ r. 0 < slots fs r) (λ r. r .start + slots fs r ≤ cycle fs) (λ r. (0 < slots fs r) × (r .start + slots fs r ≤ cycle fs)) gs (λ r p q. (p, q)) slotted (reads .inside))
+      (p .0, omega (arith, m .1, k .number-le), q, omega (arith, k .tolerable, k .interval-le)))
+      timed (chain-before fs 0 (cycle fs) gs slotted chain)
 
 -- the cycle has its place in a table's head
 pub cycle-fits : (fs : List Flow) → Accepted fs → cycle fs ≤ 4096

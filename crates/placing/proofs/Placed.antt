@@ -2,7 +2,7 @@
 use mathlib.Core.Path.{_≡_, refl, ap, subst}
 use mathlib.Core.Bool.{true, false}
 use mathlib.Core.List.{List, [], _∷_, _++_}
-use Prim.Native.Nat.{ℕ, zero, suc, _+_, _-_, _≤_, _<_}
+use Prim.Native.Nat.{ℕ, suc, _+_, _≤_, _<_}
 use native.Mathlib.Omega.{arith}
 use lib.Dec.{ltb}
 use borrow.Author.Tests.{ltb-true, lt-ltb}
@@ -12,7 +12,7 @@ use Rattle.logic.proofs.Members.{all-imp}
 use Rattle.logic.proofs.Appends.{all-append, sum-append}
 use Rattle.fields.specs.declared.flow.Flow.{Flow}
 use Rattle.lists.specs.Facts.{occupies}
-use Rattle.placing.specs.declared.Found.the-variants.{At, Nowhere}
+use Rattle.placing.specs.declared.Found.the-variants.{At}
 use Rattle.placing.specs.Rule.{Settled, Frame, content, past, lawful, takes, firstLawful, contents, olds, put}
 use Rattle.placing.proofs.Overhangs.{passing, Each, Spare, Based, each-along, lawful-each}
 

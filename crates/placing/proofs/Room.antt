@@ -1,20 +1,19 @@
 -- Where a group is under way and its flows have room, the next flow's first lawful frame is the first with a free slot. Assumes nothing.
-use mathlib.Core.Path.{_≡_, refl, ap, _∙_}
-use mathlib.Core.Bool.{true, false}
+use mathlib.Core.Path.{_≡_, ap, _∙_}
+use mathlib.Core.Bool.{true}
 use mathlib.Core.Logic.{_⊎_, inl, inr}
 use mathlib.Core.List.{List, [], _∷_}
-use Prim.Native.Nat.{ℕ, zero, suc, _+_, _-_, _*_, _≤_, _<_}
+use Prim.Native.Nat.{ℕ, suc, _+_, _*_, _≤_, _<_}
 use native.Mathlib.Omega.{arith}
-use lib.Dec.{ltb}
 use lib.ListN.{length}
-use borrow.Author.Tests.{lt-ltb, le-ltb}
-use Rattle.logic.specs.Lists.{All, sum}
-use Rattle.logic.proofs.Tests.{by-lt, by-eq}
+use borrow.Author.Tests.{le-ltb}
+use Rattle.logic.specs.Lists.{sum}
+use Rattle.logic.proofs.Tests.{by-lt}
 use Rattle.logic.proofs.Members.{all-imp}
 use Rattle.fields.specs.declared.flow.Flow.{Flow}
 use Rattle.lists.specs.Facts.{occupies}
-use Rattle.placing.specs.declared.Found.the-variants.{At, Nowhere}
-use Rattle.placing.specs.Rule.{Outcome, done, Settled, Frame, content, past, lawful, takes, firstLawful, contents, olds, put, group}
+use Rattle.placing.specs.declared.Found.the-variants.{At}
+use Rattle.placing.specs.Rule.{Settled, Frame, content, past, lawful, takes, firstLawful, contents, olds, put}
 use Rattle.placing.proofs.Overhangs.{passing, Each, Spare, each-along, each-lawful}
 use Rattle.placing.proofs.Placed.{with-flow, content-with, here-takes}
 

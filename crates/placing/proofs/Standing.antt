@@ -1,33 +1,32 @@
 -- Every layout that the rule comes to is lawful, and each flow's nominal times step by its interval. Assumes nothing.
 use mathlib.Core.Path.{_≡_, refl, sym, ap, _∙_, subst}
-use mathlib.Core.Bool.{true}
 use mathlib.Core.List.{List, [], _∷_}
-use Prim.Native.Nat.{ℕ, suc, _+_, _-_, _*_, _/_, _≤_, _<_}
+use Prim.Native.Nat.{ℕ, suc, _+_, _*_, _/_, _≤_, _<_}
 use native.Mathlib.Omega.{arith}
 use lib.Dec.{eqb}
-use lib.ListN.{length, length-map}
+use lib.ListN.{length}
 use Rattle.logic.specs.Lists.{All, sum}
 use Rattle.logic.proofs.Tests.{by-test, by-eq}
-use Rattle.logic.proofs.Members.{Mem, mem-all, all-imp, all-both}
+use Rattle.logic.proofs.Members.{Mem, mem-all}
 use Rattle.logic.proofs.Progressions.{progression}
 use Rattle.fields.specs.declared.flow.Flow.{Flow}
-use Rattle.lists.specs.Facts.{occupies, cycle, frame}
+use Rattle.lists.specs.Facts.{cycle, frame}
 use Rattle.lists.specs.Accepted.{Accepted}
-use Rattle.lists.proofs.Cycle.{occupies-pos, interval-pos, interval-divides, frame-divides, cycle-in}
+use Rattle.lists.proofs.Cycle.{interval-pos, interval-divides, frame-divides, cycle-in}
 use Rattle.tables.specs.declared.packed.Grant.{Grant}
-use Rattle.law.specs.Check.{known, slots, to}
-use Rattle.law.proofs.Listed.{mem-known, look-mem, slots-pos}
+use Rattle.law.specs.Check.{to}
+use Rattle.law.proofs.Listed.{mem-known, look-mem}
 use Rattle.law.proofs.Counting.{mark, mark-same, mark-other, look-sum}
-use Rattle.law.proofs.Chains.{chain-inside}
+use Rattle.law.proofs.Chains.{chain-before}
 use Rattle.law.proofs.Times.{times}
 use Rattle.placing.specs.Rule.{done, Settled, Frame, content, weight, olds, group, rep, opened, settle, layout, rows}
 use Rattle.placing.proofs.Overhangs.{passing, Each, Spare, Based}
 use Rattle.placing.proofs.Placed.{newly, Newly}
 use Rattle.placing.proofs.Groups.{Grouped, group-leaves}
-use Rattle.placing.proofs.Layouts.{opened-olds, opened-newly, opened-news, rep-length, rep-passing, rep-each, granted, settle-length, settle-passing, settle-each, settle-granted}
+use Rattle.placing.proofs.Layouts.{opened-newly, opened-news, rep-passing, rep-each, granted, settle-passing, settle-each}
 use Rattle.placing.proofs.Ended.{ended-olds, ended-wide, ended-granted}
 use Rattle.placing.proofs.Nominals.{nominals, numbered, nominals-length, nominals-rep, nominals-settle}
-use Rattle.placing.proofs.Tables.{Timed, rows-times, rows-timed, rows-chain}
+use Rattle.placing.proofs.Tables.{timed-slots, rows-times, rows-timed, rows-chain}
 use Rattle.placing.proofs.Windows.{layout-keep}
 
 -- a flow's grants in a layout step by its interval, the first below it, and fill the window
@@ -64,6 +63,7 @@ only b i (t ∷ []) e h a = (t, omega arith, refl)
 only b i (t ∷ s ∷ ts) e h a = absurd (omega arith)
 
 module _ (fs : List Flow) (ok : Accepted fs) where
+  -- before the first group
   start : Stands fs 0 (frame fs) ([] ∷ [])
   unfolding passing opened content weight sum granted
   start =
@@ -78,6 +78,7 @@ module _ (fs : List Flow) (ok : Accepted fs) where
         awaited = λ f m l. refl;
       }
 
+  -- where no flow has the next length
   passed : (t s : ℕ) (hs : List (List Settled)) → ((g : Flow) → Mem g fs → g .interval ≡ suc t → ⊥) → Stands fs t s hs → Stands fs (suc t) s hs
   passed t s hs none a =
       record {
@@ -150,15 +151,10 @@ module _ (fs : List Flow) (ok : Accepted fs) where
     -- every record of the group's window starts inside it
     inside : All (λ r. r .start < i) (rows φ 0 0 ended)
     inside =
-        let c = chain-inside fs (0 + 0) (0 + length ended * φ + passing φ 0 (opened ended)) (rows φ 0 0 ended) (rows-chain fs (ok .distinct) φ 0 0 ended based) in
-        all-both (λ r. r .start + slots fs r ≤ 0 + length ended * φ + passing φ 0 (opened ended)) (λ r. 0 < slots fs r) (λ r. r .start < i) (rows φ 0 0 ended)
-        (λ r p q. omega (arith, wide, clear)) c
-        (slots-pos fs (rows φ 0 0 ended) (mem-all (λ f. 0 < occupies f) fs (occupies-pos fs ok))
-        (all-known (rows φ 0 0 ended) (rows-timed fs (ok .distinct) φ 0 0 ended based spare)))
-      where
-        all-known : (rs : List Grant) → All (Timed fs (ok .distinct)) rs → All (λ r. known fs (r .flow) ≡ true) rs
-        all-known rs = all-imp (Timed fs (ok .distinct)) (λ r. known fs (r .flow) ≡ true) rs (λ r p. p .0)
+        let chain = rows-chain fs ok φ 0 0 i ended based (omega (arith, wide, clear)) in
+        chain-before fs (0 + 0) i (rows φ 0 0 ended) (timed-slots fs ok (rows φ 0 0 ended) (rows-timed fs ok φ 0 0 ended based spare)) chain
 
+    -- its own flows have one time each, and those of earlier groups go on
     steps : (f : Flow) → Mem f fs → f .interval ≤ i → Steps φ ended f
     steps f m l =
         by-eq (f .interval) i
@@ -183,6 +179,7 @@ module _ (fs : List Flow) (ok : Accepted fs) where
               ∙ nominals-rep φ (f .number) 0 (b .first) (f .interval) (b .rounds) k hs (b .times) (b .fills);
         })
 
+    -- so the layout that it leaves stands
     settles : Stands fs i i ended
     settles =
         record {

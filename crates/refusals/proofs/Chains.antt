@@ -33,6 +33,11 @@ pub chain-assoc : (a b c : Checked) → ((a ⟫ b) ⟫ c) ≡ (a ⟫ (b ⟫ c))
 chain-assoc Passed b c = refl
 chain-assoc (Refused r) b c = refl
 
+-- nothing follows
+pub chain-passed : (a : Checked) → (a ⟫ Passed) ≡ a
+chain-passed Passed = refl
+chain-passed (Refused r) = refl
+
 -- a test that names no place, both ways
 module _ (t : Bool) (r : Refusal) where
   pub unless-yes : t ≡ true → unless t r ≡ Passed

@@ -5,9 +5,10 @@ use mathlib.Core.List.{List, [], _∷_}
 use Prim.Native.Nat.{ℕ, suc, _+_}
 use native.Mathlib.Numerals.{add-one}
 use Rattle.logic.specs.Lists.{All}
+use Rattle.logic.proofs.Tests.{by-test}
 use Rattle.refusals.specs.declared.Refusal.{Refusal}
 use Rattle.refusals.specs.declared.Checked.the-variants.{Passed, Refused}
-use Rattle.refusals.specs.Tests.{lowest}
+use Rattle.refusals.specs.Tests.{_⟫_, unless, lowest}
 use Rattle.refusals.proofs.Chains.{refused-not}
 
 -- every test passes
@@ -29,6 +30,10 @@ module _ (refusal : ℕ → Refusal) where
 
   -- a turn of a loop that looks for it, at place n
   module _ (n : ℕ) (t : Bool) (ts : List Bool) where
+    pub lowest-first : lowest refusal n (t ∷ ts) ≡ (unless t (refusal n) ⟫ lowest refusal (n + 1) ts)
+    unfolding lowest
+    lowest-first = by-test t (λ e. rw (add-one, e, lowest)) (λ e. rw (e, lowest))
+
     pub lowest-next : t ≡ true → lowest refusal n (t ∷ ts) ≡ lowest refusal (n + 1) ts
     unfolding lowest
     lowest-next e = rw (add-one, e, lowest)

@@ -5,7 +5,9 @@ use mathlib.Core.List.{List, _++_}
 use Prim.Native.Nat.{ℕ, _≤_, _<_}
 use native.Mathlib.Omega.{arith}
 use lib.Dec.{ltb}
-use lib.ListN.{length, drop}
+use lib.ListN.{length, take, drop}
+use lib.Seq.{take-at}
+use Rattle.logic.proofs.Tests.{by-test}
 use borrow.Author.Tests.{lt-ltb, le-ltb, ltb-false}
 use Rattle.refusals.specs.declared.Refusal.{Refusal}
 use Rattle.refusals.specs.declared.Refusal.the-variants.{Room}
@@ -39,3 +41,14 @@ answer-fits Passed bs n k e = go (ltb n (length bs)) refl e
     go false h i =
         let q : length bs ≡ k = cc in
         omega (arith, ltb-false n (length bs) h)
+
+-- where bytes are answered the tests pass, and the room's front holds the bytes
+pub written-front : (c : Checked) (bs room : List ℕ) (k : ℕ) → answer c bs (length room) ≡ Bytes k → (c ≡ Passed) × (take k (written c bs room) ≡ bs)
+unfolding answer written
+written-front (Refused r) bs room k e = let z : _≡_ {A = ℕ} 0 1 = cc in absurd (omega arith)
+written-front Passed bs room k e =
+    by-test (ltb (length room) (length bs)) (λ t. let i : Stopped Room ≡ Bytes k = rw t at e in let z : _≡_ {A = ℕ} 0 1 = cc in absurd (omega arith))
+    (λ t.
+    let i : Bytes (length bs) ≡ Bytes k = rw t at e in
+    let q : length bs ≡ k = cc in
+    (refl, rw t (take-at bs (drop (length bs) room) k q)))

@@ -27,6 +27,13 @@ module _ (t : List ℕ) where
   unfolding headed
   headed-spare d e = rw (eq-eqb (getD (headOf t) 0 0) 1 d, eq-eqb (getD (headOf t) 1 0) 2 e)
 
+  pub headed-is : headed t ≡ true → (getD (headOf t) 0 0 ≡ 1) × (getD (headOf t) 1 0 ≡ 2) × (getD (headOf t) 2 0 ≡ 0)
+  unfolding headed
+  headed-is h =
+      let a = and-both (eqb (getD (headOf t) 0 0) 1) _ h in
+      let b = and-both (eqb (getD (headOf t) 1 0) 2) _ (a .1) in
+      (eqb-true _ 1 (a .0), eqb-true _ 2 (b .0), eqb-true _ 0 (b .1))
+
 -- ---- the table
 
 pub record Formed (t : List ℕ) : Type 0 where

@@ -1,8 +1,8 @@
--- A window of a table: where it stands, and that it holds the grants that start in it and no other. Assumes nothing.
+-- A window of a table: test 19, the grants before a start, and where the stretch stands. Assumes nothing.
 use mathlib.Core.Path.{_≡_, refl, ap}
 use mathlib.Core.Bool.{_&&_}
 use mathlib.Core.List.{List, [], _∷_}
-use Prim.Native.Nat.{ℕ, zero, suc, _≤_, _<_, zero-le, suc-le-suc}
+use Prim.Native.Nat.{ℕ, _≤_, _<_, zero-le, suc-le-suc}
 use native.Mathlib.Omega.{arith}
 use lib.Dec.{leb}
 use lib.ListN.{length}
@@ -14,9 +14,11 @@ use Rattle.refusals.specs.declared.Checked.{Checked}
 use Rattle.refusals.specs.declared.Checked.the-variants.{Passed, Refused}
 use Rattle.refusals.proofs.Chains.{both-passed, unless-passed}
 use Rattle.tables.specs.declared.packed.Grant.{Grant}
-use Rattle.tables.specs.Tables.{cycleOf, count, place, grantsFrom, grantsOf}
+use Rattle.tables.specs.Tables.{cycleOf, place, grantsOf}
 use Rattle.tables.specs.Form.{formed, test11, test12, formTests}
-use Rattle.tables.specs.Window.{test19, windowTests, before, edge}
+use Rattle.tables.specs.declared.stretch.Edges.the-variants.{Bytes, Refused as Stopped}
+use Rattle.tables.specs.Window.{test19, windowTests, before, edge, edgesIf, edgesOf}
+use Rattle.tables.proofs.Walk.{length-grants}
 use Rattle.tables.proofs.Forms.{Formed, formed-is}
 
 -- ---- test 19
@@ -50,12 +52,13 @@ before-mono a b (g ∷ gs) h =
     (λ l. rw (lt-ltb (g .start) a l, lt-ltb (g .start) b (omega arith)) (suc-le-suc (before-mono a b gs h)))
     (λ l. rw (le-ltb (g .start) a l) zero-le)
 
-pub length-grants-from : (t : List ℕ) (i n : ℕ) → length (grantsFrom t i n) ≡ n
-unfolding grantsFrom
-length-grants-from t i zero = refl
-length-grants-from t i (suc n) = ap suc (length-grants-from t (suc i) n)
-
 -- ---- what the tests leave
+
+pub form-passed : (t : List ℕ) → formTests t ≡ Passed → Formed t × (test12 (grantsOf t) ≡ Passed)
+unfolding formTests test11
+form-passed t e =
+    let both = both-passed (test11 t) (test12 (grantsOf t)) e in
+    (formed-is t (unless-passed (formed t) TableForm (both .0)), both .1)
 
 -- a table and a window that pass tests 11, 12 and 19
 pub record Lawful (t : List ℕ) (a b : ℕ) : Type 0 where
@@ -65,13 +68,13 @@ pub record Lawful (t : List ℕ) (a b : ℕ) : Type 0 where
   pub inside : b ≤ cycleOf t
 
 pub lawful : (t : List ℕ) (a b : ℕ) → windowTests t a b ≡ Passed → Lawful t a b
-unfolding windowTests formTests test11 test19
+unfolding windowTests test19
 lawful t a b e =
     let both = both-passed (formTests t) (test19 t a b) e in
-    let form = both-passed (test11 t) (test12 (grantsOf t)) (both .0) in
+    let form = form-passed t (both .0) in
     let ends = and-both (leb a b) (leb b (cycleOf t)) (unless-passed (leb a b && leb b (cycleOf t)) WindowEnds (both .1)) in
     record {
-      form = formed-is t (unless-passed (formed t) TableForm (form .0));
+      form = form .0;
       rising = form .1;
       ordered = leb-true a b (ends .0);
       inside = leb-true b (cycleOf t) (ends .1);
@@ -80,17 +83,47 @@ lawful t a b e =
 -- the stretch stands in order inside the table
 pub lawful-edges : (t : List ℕ) (a b : ℕ) → Lawful t a b
     → (before a (grantsOf t) ≤ before b (grantsOf t)) × (before b (grantsOf t) ≤ 1024) × (place (before b (grantsOf t)) ≤ length t)
-unfolding grantsOf
 lawful-edges t a b w =
     let le = before-le b (grantsOf t) in
-    let len : length (grantsOf t) ≡ count t = length-grants-from t 0 (count t) in
-    (before-mono a b (grantsOf t) (w .ordered), omega (arith, w .form .count-le), omega (arith, w .form .exact))
+    (before-mono a b (grantsOf t) (w .ordered), omega (arith, length-grants t, w .form .count-le), omega (arith, length-grants t, w .form .exact))
 
 module _ (k : Checked) (t : List ℕ) (a : ℕ) where
-  pub edge-passed : k ≡ Passed → edge k t a ≡ place (before a (grantsOf t))
+  pub edge-passed : (i : ℕ) → k ≡ Passed → i ≡ before a (grantsOf t) → edge k t a ≡ place i
   unfolding edge
-  edge-passed e = rw e
+  edge-passed i e h = rw (e, h)
 
   pub edge-refused : (r : Refusal) → k ≡ Refused r → edge k t a ≡ 0
   unfolding edge
   edge-refused r e = rw e
+
+-- what the code finds: the tests' refusal, or as many bytes as the grants before either end take
+module _ (t : List ℕ) (a b : ℕ) where
+  pub edges-refused : (r : Refusal) → windowTests t a b ≡ Refused r → Stopped r ≡ edgesOf t a b
+  unfolding edgesOf
+  edges-refused r e = rw e
+
+  pub edges-passed : (i j : ℕ) → windowTests t a b ≡ Passed → i ≡ before a (grantsOf t) → j ≡ before b (grantsOf t) → Bytes (place i) (place j) ≡ edgesOf t a b
+  unfolding edgesOf edge
+  edges-passed i j e p q = rw (e, p, q)
+
+  -- and what it says
+  pub refused-edges : (r : Refusal) → edgesOf t a b ≡ Stopped r → windowTests t a b ≡ Refused r
+  unfolding edgesOf
+  refused-edges r e = go (windowTests t a b) e
+    where
+      go : (k : Checked) → edgesIf k t a b ≡ Stopped r → k ≡ Refused r
+      go Passed q = let z : _≡_ {A = ℕ} 0 1 = cc in absurd (omega arith)
+      go (Refused s) q = let z : s ≡ r = cc in ap (λ (x : Refusal). Refused x) z
+
+  pub passed-edges : (i j : ℕ) → edgesOf t a b ≡ Bytes i j → let k = windowTests t a b in (k ≡ Passed) × (i ≡ edge k t a) × (j ≡ edge k t b)
+  unfolding edgesOf
+  passed-edges i j e = go (windowTests t a b) e
+    where
+      go : (k : Checked) → edgesIf k t a b ≡ Bytes i j → (k ≡ Passed) × (i ≡ edge k t a) × (j ≡ edge k t b)
+      go Passed q = (refl, (cc), (cc))
+      go (Refused s) q = let z : _≡_ {A = ℕ} 0 1 = cc in absurd (omega arith)
+
+  -- the edges are in order and inside the table
+  pub edges-inside : let k = windowTests t a b in k ≡ Passed → (edge k t a ≤ edge k t b) × (edge k t b ≤ length t)
+  unfolding edge
+  edges-inside e = let h = lawful-edges t a b (lawful t a b e) in rw e (omega arith, h .2)

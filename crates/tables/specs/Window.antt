@@ -11,6 +11,8 @@ use Rattle.refusals.specs.declared.Checked.{Checked}
 use Rattle.refusals.specs.declared.Checked.the-variants.{Passed, Refused}
 use Rattle.refusals.specs.Tests.{_⟫_, unless}
 use Rattle.tables.specs.declared.packed.Grant.{Grant}
+use Rattle.tables.specs.declared.stretch.Edges.{Edges}
+use Rattle.tables.specs.declared.stretch.Edges.the-variants.{Bytes, Refused as Stopped}
 use Rattle.tables.specs.Tables.{cycleOf, place, grantsOf}
 use Rattle.tables.specs.Form.{formTests}
 
@@ -37,6 +39,15 @@ startingIn a b (g ∷ gs) = let rest = startingIn a b gs in cond (leb a (g .star
 unfoldable pub edge : Checked → List ℕ → ℕ → ℕ
 edge Passed t a = place (before a (grantsOf t))
 edge (Refused r) t a = 0
+
+-- both edges, or the refusal
+abbrev pub edgesIf : Checked → List ℕ → ℕ → ℕ → Edges
+edgesIf Passed t a b = Bytes (edge Passed t a) (edge Passed t b)
+edgesIf (Refused r) t a b = Stopped r
+
+-- the edges of a window
+unfoldable pub edgesOf : List ℕ → ℕ → ℕ → Edges
+edgesOf t a b = edgesIf (windowTests t a b) t a b
 
 -- r is the part of s from byte i up to byte e: those bytes, and where they stand in the caller's own memory
 pub record Stretch (s r : RefT (List ℕ)) (i e : ℕ) : Type 0 where

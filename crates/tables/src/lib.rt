@@ -13,5 +13,7 @@ pub use packed::frame;
 pub use packed::grant_at;
 pub use packed::write_head;
 pub use packed::write_record;
+pub use stretch::Edges;
+pub use stretch::edges_of;
 pub use stretch::window;
 pub use stretch::window_tests;

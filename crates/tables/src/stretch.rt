@@ -1,7 +1,7 @@
 // The question for a window of a table: tests 11, 12 and 19, and the stretch of records.
 ghost use mathlib.Core.Path.{_≡_};
 ghost use Rattle.tables.specs.Tables.{grantsOf};
-ghost use Rattle.tables.specs.Window.{test19, windowTests, before, edge, Stretch};
+ghost use Rattle.tables.specs.Window.{test19, windowTests, before, edge, edgesOf, Stretch};
 use crate::form::form_tests;
 use crate::packed::count;
 use crate::packed::cycle;
@@ -49,16 +49,34 @@ fn grants_before(table: &[u8], a: u64) -> usize
     i
 }
 
+// Where the records with a ≤ start < b stand in the table, from the first byte up to the end, or the window's refusal.
+pub enum Edges {
+    Bytes(usize, usize),
+    Refused(Refusal),
+}
+
+// The edges of a window, in bytes from the table's front. Without a record in it both stand before the first record with
+// start ≥ a, or at the end of the table.
+pub fn edges_of(table: &[u8], a: u64, b: u64) -> Edges
+    ensures { λ r. ⌜ r ≡ edgesOf (now (table .entry)) a b ⌝ }
+{
+    let tests = window_tests(table, a, b);
+    if let Checked::Refused(r) = tests {
+        return Edges::Refused(r);
+    }
+    let first = 8 + 5 * grants_before(table, a);
+    let end = 8 + 5 * grants_before(table, b);
+    Edges::Bytes(first, end)
+}
+
 // The records with a ≤ start < b, as a stretch of the caller's own table. Without such a record it is empty and stands before
 // the first record with start ≥ a, or at the end of the table; on a refusal it is empty, at the table's front.
 pub fn window(table: &[u8], a: u64, b: u64) -> &[u8]
     ensures { λ r. ⌜ Stretch (table .entry) r (edge (windowTests (now (table .entry)) a b) (now (table .entry)) a) (edge (windowTests (now (table .entry)) a b) (now (table .entry)) b) ⌝ }
 {
-    let tests = window_tests(table, a, b);
-    if let Checked::Refused(_) = tests {
+    let edges = edges_of(table, a, b);
+    let Edges::Bytes(first, end) = edges else {
         return &table[0..0];
-    }
-    let start = 8 + 5 * grants_before(table, a);
-    let end = 8 + 5 * grants_before(table, b);
-    &table[start..end]
+    };
+    &table[first..end]
 }

@@ -1,6 +1,6 @@
 -- `tables::form::formed` meets its contract.
 -- Assumes nothing.
-use mathlib.Core.Path.{sym, ap, _∙_}
+use mathlib.Core.Path.{_≡_, sym, ap, _∙_}
 use native.Mathlib.Omega.{arith}
 use borrow.Author.Needs.{needs}
 use borrow.Author.Tests.{not-true, not-false}
@@ -46,7 +46,9 @@ returns-6 : tie.Need-returns-6
 returns-6 c =
     let e = c .before .before .before .before .before in
     let t = e .before .before .before .before .args .table .now in
-    c .spared .ensures ∙ ap (spared t 0) (c .before .before .before .before .count .ensures)
+    let n = c .before .before .before .before .count in
+    let spare : c .spared .result ≡ spared t 0 (n .result) = c .spared .ensures in
+    spare ∙ ap (spared t 0) (n .ensures)
     ∙ sym (formed-but-zeros t (omega arith) (sym (e .before .headed .ensures) ∙ not-false _ (e .if2 .left)) (omega arith) (omega arith) (omega arith))
 
 pub formed-spec : {M : Type 1} → statement M

@@ -41,7 +41,7 @@ returns c =
     let v = b .before .before .loop in
     let t = b .before .before .before .before .before .before .args .table .now in
     let n = b .before .before .before .before .count in
-    sym (rising-stop t (v .i) (n .result) (omega arith) (v .last) (b .grant-at2 .result) (b .grant-at2 .ensures) (c .if1 .taken)) ∙ v .inv ∙ ap (λ (k : ℕ). test12 (grantsFrom t 0 k)) (n .ensures)
+    sym (rising-stop t (v .i) (n .result) (omega arith) (v .last) (b .grant-at2 .result) (b .grant-at2 .ensures) (omega arith)) ∙ v .inv ∙ ap (λ (k : ℕ). test12 (grantsFrom t 0 k)) (n .ensures)
 
 loop-less : tie.Need-loop-less Inv-loop μ-loop
 loop-less c = search needs
@@ -52,7 +52,7 @@ loop-again c =
     let v = b .before .before .loop in
     let t = b .before .before .before .before .before .before .args .table .now in
     let n = b .before .before .before .before .count in
-    sym (rising-next t (v .i) (n .result) (omega arith) (v .last) (b .grant-at2 .result) (b .grant-at2 .ensures) (c .if1 .left)) ∙ v .inv
+    sym (rising-next t (v .i) (n .result) (omega arith) (v .last) (b .grant-at2 .result) (b .grant-at2 .ensures) (omega arith)) ∙ v .inv
 
 returns-2 : tie.Need-returns-2 Inv-loop μ-loop
 unfolding grantsOf

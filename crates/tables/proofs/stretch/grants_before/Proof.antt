@@ -36,7 +36,7 @@ returns c =
     let v = b .before .before .loop in
     let a = b .before .before .before .before .before .args in
     let n = b .before .before .before .count in
-    sym (before-stop (a .table .now) (v .i) (n .result) (omega arith) (a .a) (b .grant-at .result) (b .grant-at .ensures) (c .if1 .taken)) ∙ v .inv
+    sym (before-stop (a .table .now) (v .i) (n .result) (omega arith) (a .a) (b .grant-at .result) (b .grant-at .ensures) (omega arith)) ∙ v .inv
     ∙ ap (λ (k : ℕ). before (a .a) (grantsFrom (a .table .now) 0 k)) (n .ensures)
 
 add-i : tie.Need-add-i Inv-loop μ-loop
@@ -51,7 +51,7 @@ loop-again c =
     let v = b .before .before .loop in
     let a = b .before .before .before .before .before .args in
     let n = b .before .before .before .count in
-    sym (before-next (a .table .now) (v .i) (n .result) (omega arith) (a .a) (b .grant-at .result) (b .grant-at .ensures) (c .if1 .left)) ∙ v .inv
+    sym (before-next (a .table .now) (v .i) (n .result) (omega arith) (a .a) (b .grant-at .result) (b .grant-at .ensures) (omega arith)) ∙ v .inv
 
 returns-2 : tie.Need-returns-2 Inv-loop μ-loop
 unfolding grantsOf

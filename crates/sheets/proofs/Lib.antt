@@ -1,0 +1,12 @@
+pub mod Lines
+pub mod Readings
+pub mod Walk
+pub mod Tests
+pub mod Looks
+pub mod Packing
+pub mod Texts
+pub mod Printing
+pub mod Forms
+pub mod Sheets
+pub mod RoundTrip
+pub mod Cases

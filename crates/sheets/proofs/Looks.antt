@@ -1,0 +1,69 @@
+-- One look through the lines of a sheet: how many there are, and tests 20 and 4 so far. Assumes nothing.
+use mathlib.Core.Path.{_≡_, refl, sym, ap, _∙_}
+use mathlib.Core.List.{List, map}
+use Prim.Native.Nat.{ℕ, _+_, _-_, _≤_, _<_}
+use native.Mathlib.Omega.{arith}
+use lib.ListN.{length, take, drop}
+use Rattle.fields.specs.declared.flow.Flow.{Flow}
+use Rattle.fields.specs.Flows.{keeps}
+use Rattle.refusals.specs.declared.Refusal.the-variants.{Field, Line as AtLine}
+use Rattle.refusals.specs.declared.Checked.{Checked}
+use Rattle.refusals.specs.declared.Checked.the-variants.{Passed, Refused}
+use Rattle.refusals.specs.Tests.{_⟫_, unless, lowest}
+use Rattle.refusals.proofs.Chains.{chain-assoc, chain-passed}
+use Rattle.refusals.proofs.Lowest.{lowest-first, lowest-next, lowest-here}
+use Rattle.lists.specs.Tests.{test4}
+use Rattle.sheets.specs.declared.line.Line.{Line}
+use Rattle.sheets.specs.declared.line.Line.the-variants.{Of, Bad}
+use Rattle.sheets.specs.Lines.{lineSize}
+use Rattle.sheets.specs.Readings.{ofForm, flowIn, read, readings, flowsIn}
+use Rattle.sheets.specs.Tests.{test20}
+use Rattle.sheets.proofs.Walk.{line-within, says, flows-next, readings-done, flows-done}
+
+-- the look stands at a place: n lines are behind it, all good, and `rules` is what test 4 says of them
+pub record LookAt (s : List ℕ) (at n : ℕ) (rules : Checked) : Type 0 where
+  pub inside : at ≤ length s
+  pub few : n ≤ at
+  pub lines-left : n + length (flowsIn (drop at s)) ≡ length (flowsIn s)
+  pub form-left : test20 s ≡ lowest AtLine (n + 1) (map ofForm (readings (drop at s)))
+  pub rules-left : test4 (flowsIn s) ≡ (rules ⟫ lowest Field (n + 1) (map keeps (flowsIn (drop at s))))
+
+pub look-start : (s : List ℕ) → LookAt s 0 0 Passed
+unfolding test20 test4
+look-start s = record { inside = omega arith; few = omega arith; lines-left = omega arith; form-left = refl; rules-left = refl }
+
+module _ (s : List ℕ) (at n : ℕ) (rules : Checked) (look : LookAt s at n rules) where
+  -- at the sheet's end
+  pub look-end : length s ≤ at → (n ≡ length (flowsIn s)) × (test20 s ≡ Passed) × (test4 (flowsIn s) ≡ rules)
+  unfolding lowest
+  look-end h =
+      let none = flows-done s at h in (
+        omega (arith, look .lines-left, ap length none),
+        look .form-left ∙ rw (readings-done s at h),
+        look .rules-left ∙ rw none (chain-passed rules),
+      )
+
+  -- at a line, which says x
+  module _ (e : ℕ) (h : at < length s) (q : e ≡ at + lineSize (drop at s)) (x : Line) (g : x ≡ read (take (e - at) (drop at s))) where
+    pub look-bad : x ≡ Bad → test20 s ≡ Refused (AtLine (n + 1))
+    look-bad b =
+        look .form-left ∙ rw (says s at e h q x g)
+        (lowest-here AtLine (n + 1) (ofForm x) (map ofForm (readings (drop e s))) (ap ofForm b))
+
+    pub look-next : (f : Flow) (new : Checked) → x ≡ Of f → new ≡ (rules ⟫ unless (keeps f) (Field (n + 1))) → LookAt s e (n + 1) new
+    look-next f new o r =
+        let w = line-within s at e h q in
+        let next = flows-next s at e h q x g f (sym (ap flowIn o)) in
+        record {
+          inside = w .1;
+          few = omega (arith, w .0, look .few);
+          lines-left = omega (arith, look .lines-left, ap length next);
+          form-left =
+              look .form-left ∙ rw (says s at e h q x g)
+              (lowest-next AtLine (n + 1) (ofForm x) (map ofForm (readings (drop e s))) (ap ofForm o));
+          rules-left =
+              look .rules-left ∙ rw next
+              (ap (λ (a : Checked). rules ⟫ a) (lowest-first Field (n + 1) (keeps f) (map keeps (flowsIn (drop e s))))
+              ∙ sym (chain-assoc rules (unless (keeps f) (Field (n + 1))) _)
+              ∙ ap (λ (a : Checked). a ⟫ lowest Field (n + 1 + 1) (map keeps (flowsIn (drop e s)))) (sym r));
+        }

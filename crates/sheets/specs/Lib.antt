@@ -1,0 +1,6 @@
+pub mod Texts
+pub mod Form
+pub mod Lines
+pub mod Readings
+pub mod Tests
+pub mod Answers

@@ -1,0 +1,61 @@
+// Tests 20, 3 and 4 of a sheet, in one look through its lines.
+ghost use mathlib.Core.Path.{_≡_};
+ghost use Rattle.fields.specs.Flows.{keeps};
+ghost use Rattle.refusals.specs.declared.Refusal.the-variants.{Field};
+ghost use Rattle.refusals.specs.Tests.{_⟫_, unless};
+ghost use Rattle.sheets.specs.Tests.{surveyOf};
+use crate::line::Line;
+use crate::line::line_end;
+use crate::line::read_part;
+use fields::Flow;
+use fields::Rule;
+use refusals::Checked;
+use refusals::Refusal;
+
+// What looking through a sheet finds: how many lines it has where it passes, or the first refusal.
+pub enum Survey {
+    Lines(usize),
+    Refused(Refusal),
+}
+
+// Test 4 so far and then of the flow of line n.
+fn ruled(before: Checked, f: Flow, n: usize) -> Checked
+    ensures { λ r. ⌜ r ≡ (before ⟫ unless (keeps f) (Field n)) ⌝ }
+{
+    if let Checked::Refused(r) = before {
+        return Checked::Refused(r);
+    }
+    match f.rule() {
+        Rule::Kept => Checked::Passed,
+        Rule::Broken => Checked::Refused(Refusal::Field(n)),
+    }
+}
+
+// Tests 20, 3 and 4 in their order. The first bad line ends the look, so test 4 is answered only where every line is good.
+pub fn survey_of(sheet: &[u8]) -> Survey
+    ensures { λ r. ⌜ r ≡ surveyOf (now (sheet .entry)) ⌝ }
+{
+    let mut at = 0;
+    let mut n = 0;
+    let mut rules = Checked::Passed;
+    while at < sheet.len() {
+        n += 1;
+        let e = line_end(sheet, at);
+        let line = read_part(sheet, at, e);
+        let Line::Of(f) = line else {
+            return Survey::Refused(Refusal::Line(n));
+        };
+        rules = ruled(rules, f, n);
+        at = e;
+    }
+    if n < 1 {
+        return Survey::Refused(Refusal::Count);
+    }
+    if 128 < n {
+        return Survey::Refused(Refusal::Count);
+    }
+    if let Checked::Refused(r) = rules {
+        return Survey::Refused(r);
+    }
+    Survey::Lines(n)
+}

@@ -1,0 +1,6 @@
+pub mod Words
+pub mod Numbers
+pub mod Decimals
+pub mod Numerals
+pub mod Texts
+pub mod Places

@@ -1,0 +1,6 @@
+pub mod Characters
+pub mod Words
+pub mod Numerals
+pub mod Numbers
+pub mod Decimals
+pub mod Places

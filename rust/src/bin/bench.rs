@@ -1,0 +1,113 @@
+//! Nanoseconds for each call of the base and of the library, and their ratio.
+
+use harness::base::{self, Refusal};
+use harness::{library, samples};
+use std::hint::black_box;
+use std::time::{Duration, Instant};
+
+/// Runs of each measurement; their median is printed.
+const RUNS: usize = 301;
+/// The time of one run, about: so short that on a busy machine most runs are not interrupted.
+const RUN_TIME: Duration = Duration::from_micros(200);
+/// The time of the warm-up.
+const WARM_UP: Duration = Duration::from_millis(20);
+
+fn main() {
+    println!("Median of {RUNS} runs after a warm-up. A room is made once and not cleared between calls, so each call");
+    println!("writes over the same bytes that it wrote before; no time of clearing or allocating is in the numbers.");
+    println!();
+    println!("{:62} {:>10} {:>10} {:>7}", "", "base ns", "library ns", "ratio");
+    for (name, flows) in [
+        ("case A, 3 flows, 4 grants", samples::CASE_A.to_vec()),
+        ("128 flows over 256 frames, long pushes", samples::long_pushes()),
+        ("8 flows, 1,024 grants", samples::most_grants()),
+    ] {
+        let flows = samples::numbered(&flows);
+        let (list, sheet) = (samples::list(&flows), samples::sheet(&flows));
+        let mut table = vec![0; base::LONGEST_TABLE];
+        let length = base::plan(&list, &mut table).expect("the list can be planned");
+        table.truncate(length);
+        let cycle = u64::from(u16::from_be_bytes([table[4], table[5]]));
+
+        writing(&format!("plan: {name}"), &list, base::LONGEST_TABLE, base::plan, library::plan);
+        compare(
+            &format!("check: {name}"),
+            || base::check(black_box(&list), black_box(&table)),
+            || library::check(black_box(&list), black_box(&table)),
+        );
+        compare(
+            &format!("window, second quarter: {name}"),
+            || base::window(black_box(&table), cycle / 4, cycle / 2),
+            || library::window(black_box(&table), cycle / 4, cycle / 2),
+        );
+        sheets(name, &list, &sheet);
+    }
+    let longest = samples::longest_sheet();
+    sheets("128 lines, four digits everywhere", &samples::list(&longest), &samples::sheet(&longest));
+}
+
+/// A sheet and its list, both ways.
+fn sheets(name: &str, list: &[u8], sheet: &[u8]) {
+    let (to_list, to_sheet) = (format!("sheet to list: {name}"), format!("list to sheet: {name}"));
+    writing(&to_list, sheet, base::LONGEST_LIST, base::list_from_sheet, library::list_from_sheet);
+    writing(&to_sheet, list, base::LONGEST_SHEET, base::sheet_from_list, library::sheet_from_list);
+}
+
+/// Compares an operation that reads one byte string and writes a room.
+fn writing(
+    name: &str,
+    input: &[u8],
+    room: usize,
+    ours: fn(&[u8], &mut [u8]) -> Result<usize, Refusal>,
+    theirs: fn(&[u8], &mut [u8]) -> Result<usize, Refusal>,
+) {
+    let (mut our_room, mut their_room) = (vec![0; room], vec![0; room]);
+    compare(
+        name,
+        || ours(black_box(input), black_box(&mut our_room)),
+        || theirs(black_box(input), black_box(&mut their_room)),
+    );
+    assert!(our_room == their_room, "{name}: the rooms differ");
+}
+
+/// Prints the time of both calls, which must be done and answer the same.
+fn compare<T: PartialEq + std::fmt::Debug>(
+    name: &str,
+    mut ours: impl FnMut() -> Result<T, Refusal>,
+    mut theirs: impl FnMut() -> Result<T, Refusal>,
+) {
+    let answer = ours();
+    assert!(answer.is_ok() && answer == theirs(), "{name}: {answer:?} and {:?}", theirs());
+    let (our_calls, their_calls) = (calls_in_a_run(&mut ours), calls_in_a_run(&mut theirs));
+    // Turn about, so that a disturbance from outside meets both.
+    let times: [_; RUNS] =
+        std::array::from_fn(|_| (nanoseconds(our_calls, &mut ours), nanoseconds(their_calls, &mut theirs)));
+    let (our_time, their_time) = (median(times.map(|both| both.0)), median(times.map(|both| both.1)));
+    println!("{name:62} {our_time:>10.0} {their_time:>10.0} {:>7.2}", their_time / our_time);
+}
+
+fn median(mut times: [f64; RUNS]) -> f64 {
+    times.sort_by(f64::total_cmp);
+    times[RUNS / 2]
+}
+
+/// Warms up; answers how many calls fill a run.
+fn calls_in_a_run<T>(call: &mut impl FnMut() -> T) -> u32 {
+    let start = Instant::now();
+    let mut least = WARM_UP;
+    while start.elapsed() < WARM_UP {
+        let before = Instant::now();
+        black_box(call());
+        least = least.min(before.elapsed());
+    }
+    (RUN_TIME.as_nanos() / least.as_nanos().max(1)) as u32 + 1
+}
+
+/// The time of one call over a run.
+fn nanoseconds<T>(calls: u32, call: &mut impl FnMut() -> T) -> f64 {
+    let start = Instant::now();
+    for _ in 0..calls {
+        black_box(call());
+    }
+    start.elapsed().as_nanos() as f64 / f64::from(calls)
+}

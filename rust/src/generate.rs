@@ -1,0 +1,592 @@
+//! Random inputs, the same for the same seed: good ones, ones at the limits, and damaged ones.
+
+use crate::{base, samples};
+
+/// One call of an operation. A room is its length; it holds `ROOM_BYTE` everywhere.
+#[derive(Clone, Debug)]
+pub enum Case {
+    ListFromSheet { sheet: Vec<u8>, room: usize },
+    SheetFromList { list: Vec<u8>, room: usize },
+    Plan { list: Vec<u8>, room: usize },
+    Check { list: Vec<u8>, table: Vec<u8> },
+    Window { table: Vec<u8>, a: u64, b: u64 },
+}
+
+/// The byte that a room holds everywhere before its call.
+pub const ROOM_BYTE: u8 = 0xA5;
+
+impl Case {
+    /// The operation's name in an answer line of the outside cases.
+    pub fn name(&self) -> &'static str {
+        match self {
+            Case::ListFromSheet { .. } => "pack",
+            Case::SheetFromList { .. } => "write",
+            Case::Plan { .. } => "plan",
+            Case::Check { .. } => "check",
+            Case::Window { .. } => "window",
+        }
+    }
+
+    /// The case as the stream of outside cases has it. None if a window's end is over four bytes.
+    pub fn bytes(&self) -> Option<Vec<u8>> {
+        let number = |value: u64| u32::try_from(value).ok().map(|value| value.to_be_bytes().to_vec());
+        let string = |bytes: &[u8]| Some([number(bytes.len() as u64)?, bytes.to_vec()].concat());
+        let parts = match self {
+            Case::ListFromSheet { sheet, room } => [vec![1], string(sheet)?, number(*room as u64)?, vec![]],
+            Case::SheetFromList { list, room } => [vec![2], string(list)?, number(*room as u64)?, vec![]],
+            Case::Plan { list, room } => [vec![3], string(list)?, number(*room as u64)?, vec![]],
+            Case::Check { list, table } => [vec![4], string(list)?, string(table)?, vec![]],
+            Case::Window { table, a, b } => [vec![5], string(table)?, number(*a)?, number(*b)?],
+        };
+        Some(parts.concat())
+    }
+}
+
+/// Number, size, interval and jitter of a flow.
+type Fields = [u32; 4];
+const NUMBER: usize = 0;
+const SIZE: usize = 1;
+const INTERVAL: usize = 2;
+const JITTER: usize = 3;
+
+/// A source of random cases: xorshift64*.
+pub struct Random(u64);
+
+impl Random {
+    pub fn new(seed: u64) -> Random {
+        // Spread out, so that neighbouring seeds start far apart; never 0.
+        Random(seed.wrapping_add(1).wrapping_mul(0x9E37_79B9_7F4A_7C15) | 1)
+    }
+
+    fn next(&mut self) -> u64 {
+        self.0 ^= self.0 >> 12;
+        self.0 ^= self.0 << 25;
+        self.0 ^= self.0 >> 27;
+        self.0.wrapping_mul(0x2545_F491_4F6C_DD1D)
+    }
+
+    /// A number below `end`, which is over 0.
+    fn below(&mut self, end: usize) -> usize {
+        (((self.next() >> 32) * end as u64) >> 32) as usize
+    }
+
+    /// A number from `first` to `last`.
+    fn between(&mut self, first: u32, last: u32) -> u32 {
+        first + self.below((last - first + 1) as usize) as u32
+    }
+
+    fn one_in(&mut self, times: usize) -> bool {
+        self.below(times) == 0
+    }
+
+    fn pick<T: Copy>(&mut self, choices: &[T]) -> T {
+        choices[self.below(choices.len())]
+    }
+
+    /// A random case of any operation.
+    pub fn case(&mut self) -> Case {
+        match self.below(6) {
+            0 => {
+                let sheet = self.sheet();
+                let room = self.room(base::LONGEST_LIST, |room| base::list_from_sheet(&sheet, room));
+                Case::ListFromSheet { sheet, room }
+            }
+            1 => {
+                let list = self.list();
+                let room = self.room(base::LONGEST_SHEET, |room| base::sheet_from_list(&list, room));
+                Case::SheetFromList { list, room }
+            }
+            2 | 3 => {
+                let list = self.list();
+                let room = self.room(base::LONGEST_TABLE, |room| base::plan(&list, room));
+                Case::Plan { list, room }
+            }
+            4 => {
+                let (list, table) = self.list_and_table();
+                Case::Check { list, table }
+            }
+            _ => {
+                let (_, table) = self.list_and_table();
+                let (a, b) = self.window(&table);
+                Case::Window { table, a, b }
+            }
+        }
+    }
+
+    /// The length of a room for an operation: exact, one short, longer, empty, the longest or any.
+    fn room(&mut self, longest: usize, operation: impl Fn(&mut [u8]) -> Result<usize, base::Refusal>) -> usize {
+        let exact = operation(&mut vec![0; longest]).unwrap_or(64);
+        match self.below(12) {
+            0 => exact - 1,
+            1 => exact + 1 + self.below(64),
+            2 => 0,
+            3 => self.below(longest),
+            4 | 5 => longest,
+            _ => exact,
+        }
+    }
+
+    // -----------------------------------------------------------------------------------------------------------------
+    // Flows
+    // -----------------------------------------------------------------------------------------------------------------
+
+    /// Intervals of which each divides the next, mostly with at most 256 frames.
+    fn intervals(&mut self) -> Vec<u32> {
+        let frame = match self.below(6) {
+            0 => self.between(1, 4096),
+            1 => self.between(1, 100),
+            2 => self.pick(&[1, 2, 11, 15, 48, 100, 4095, 4096]),
+            _ => self.pick(&[4, 6, 8, 10, 12, 16, 20, 32]),
+        };
+        let most_frames = if self.one_in(30) { 4096 } else { 256 };
+        let mut intervals = vec![frame];
+        let mut last = frame;
+        while !self.one_in(5) {
+            let factor = match self.below(8) {
+                0 => self.between(2, 256),
+                1 => self.between(2, 16),
+                2 => self.pick(&[128, 255, 256, 257]),
+                _ => self.pick(&[2, 2, 2, 3, 4, 4, 5]),
+            };
+            if last * factor > 4096 || last * factor / frame > most_frames {
+                break;
+            }
+            last *= factor;
+            intervals.push(last);
+        }
+        intervals
+    }
+
+    /// Flows that keep the rules of their fields, mostly related and mostly not oversold.
+    fn flows(&mut self) -> Vec<Fields> {
+        let mut flows = match self.below(20) {
+            0 => self.flows_near_1024_grants(),
+            1..5 => self.flows_that_push(),
+            _ => self.flows_by_load(),
+        };
+        self.arrange(&mut flows);
+        flows
+    }
+
+    /// Flows of size 1 with 1,023 to 1,026 grants together, if 128 flows will do.
+    fn flows_near_1024_grants(&mut self) -> Vec<Fields> {
+        let intervals = self.intervals();
+        let cycle = intervals[intervals.len() - 1];
+        let mut grants = self.between(1023, 1026);
+        let tightness = self.below(8);
+        let mut flows = Vec::new();
+        while grants > 0 && flows.len() < 128 {
+            // Every interval once, so that frame and cycle are there; then what takes the most grants.
+            let most = intervals.iter().copied().find(|&interval| cycle / interval <= grants).unwrap_or(cycle);
+            let interval = intervals.get(flows.len()).copied().unwrap_or(most);
+            grants = grants.saturating_sub(cycle / interval);
+            flows.push([
+                flows.len() as u32 + 1,
+                1,
+                interval,
+                self.jitter(tightness, interval, interval == intervals[0]),
+            ]);
+        }
+        flows
+    }
+
+    /// Flows of sizes about the frame over a short one that can be pushed a little: some fit only a later frame, and
+    /// smaller ones then push them from an earlier one.
+    fn flows_that_push(&mut self) -> Vec<Fields> {
+        let frame = self.between(4, 20);
+        let middle = frame * self.between(2, 8);
+        let cycle = middle * self.pick(&[1, 1, 2, 3, 8, 16]);
+        let mut flows = vec![[1, self.between(1, frame / 4), frame, self.between(1, frame / 3)]];
+        let mut slots = (cycle - cycle / frame * flows[0][SIZE]) * self.between(60, 100) / 100;
+        let most = self.between(2, 127);
+        for number in 2..2 + most {
+            let interval = self.pick(&[middle, cycle, cycle]);
+            let size = self.between(1, frame + 2).min(slots / (cycle / interval));
+            if size == 0 {
+                break;
+            }
+            slots -= size * (cycle / interval);
+            flows.push([number, size, interval, self.between(0, 2)]);
+        }
+        flows
+    }
+
+    /// Flows that come to a load of some part of the cycle.
+    fn flows_by_load(&mut self) -> Vec<Fields> {
+        let intervals = self.intervals();
+        let (frame, cycle) = (intervals[0], intervals[intervals.len() - 1]);
+        let most = self.pick(&[1, 2, 3, 4, 6, 8, 12, 24, 48, 128]);
+        let count = if self.one_in(4) { most } else { self.between(1, most) };
+        let mut slots = cycle * self.pick(&[40, 70, 90, 95, 100, 100, 100, 100]) / 100;
+        let oversold = self.one_in(15);
+        let mut grants = if self.one_in(30) { 1100 } else { 1024 };
+        let tightness = self.below(8);
+        let mut flows = Vec::new();
+        for index in 0..count {
+            let mut interval = match index {
+                0 => frame,
+                1 => cycle,
+                _ => self.pick(&intervals),
+            };
+            if cycle / interval > grants {
+                interval = cycle;
+            }
+            let times = cycle / interval;
+            let most = (slots / times).min(interval).min(4095);
+            if index > 0 && (grants == 0 || most == 0 && !oversold) {
+                break;
+            }
+            let share = (2 * most / (count - index)).clamp(1, most.max(1));
+            let size = match self.below(8) {
+                0 => 1,
+                1 => self.between(1, most.max(1)),
+                2 if index + 1 == count => most.max(1),
+                3 => self.between(1, share.min(4)),
+                _ => self.between(1, share),
+            };
+            slots = slots.saturating_sub(size * times);
+            grants = grants.saturating_sub(times);
+            flows.push([index + 1, size, interval, self.jitter(tightness, interval, interval == intervals[0])]);
+        }
+        flows
+    }
+
+    /// A jitter for a flow of this interval: none, the most, little, any, the shortest interval's free and the others'
+    /// tight, or any of these.
+    fn jitter(&mut self, tightness: usize, interval: u32, shortest: bool) -> u32 {
+        match tightness {
+            0 => 0,
+            1 => interval - 1,
+            2 => self.between(0, 3.min(interval - 1)),
+            3 => self.between(0, (interval - 1) / 4),
+            4 => self.between(0, interval - 1),
+            5 | 6 if shortest => self.between((interval - 1) / 2, interval - 1),
+            5 | 6 => self.between(0, 1.min(interval - 1)),
+            _ => {
+                let tightness = self.below(5);
+                self.jitter(tightness, interval, shortest)
+            }
+        }
+    }
+
+    /// Puts the flows in any order and gives them other numbers, each but one time in three.
+    fn arrange(&mut self, flows: &mut [Fields]) {
+        if !self.one_in(3) {
+            for last in (1..flows.len()).rev() {
+                let other = self.below(last + 1);
+                flows.swap(last, other);
+            }
+        }
+        if !self.one_in(3) {
+            let step = self.pick(&[1, 7, 100, 500, 1021]);
+            let first = self.between(0, 1022);
+            for (index, flow) in flows.iter_mut().enumerate() {
+                flow[NUMBER] = 1 + (first + step * index as u32) % 1023;
+            }
+        }
+    }
+
+    /// Brings a field of a flow to a limit or past it, or spoils what the flows have to do with one another.
+    fn damage_flows(&mut self, flows: &mut Vec<Fields>) {
+        let index = self.below(flows.len());
+        let other = self.pick(flows);
+        let flow = &mut flows[index];
+        let interval = flow[INTERVAL];
+        match self.below(14) {
+            0 => flow[NUMBER] = self.pick(&[0, 1, 1022, 1023]),
+            1 => flow[SIZE] = self.pick(&[0, 1, 4094, 4095]),
+            2 => flow[SIZE] = interval + self.between(0, 1),
+            3 => flow[INTERVAL] = self.pick(&[0, 1, 4095, 4096, 4097, 8191]),
+            4 => flow[INTERVAL] = interval + 1,
+            5 => flow[JITTER] = interval - self.between(0, 1),
+            6 => flow[JITTER] = self.pick(&[0, 4095, 4096, 8191]),
+            7 => flow[INTERVAL] = interval * self.between(1, 300),
+            8 => flow[SIZE] = self.between(1, interval),
+            9 => flow[self.below(4)] = self.between(0, 9999),
+            10 | 11 => flow[NUMBER] = other[NUMBER],
+            12 => flows.push(other),
+            _ => {
+                let count = self.pick(&[127, 128, 129, 130, 200, 256]);
+                let flow = *flow;
+                flows.resize(count, flow);
+                for (number, flow) in (1..).zip(flows) {
+                    flow[NUMBER] = number;
+                }
+            }
+        }
+    }
+
+    // -----------------------------------------------------------------------------------------------------------------
+    // Lists and sheets
+    // -----------------------------------------------------------------------------------------------------------------
+
+    /// A packed list: three in four with flows that keep the rules of fields, nine in ten with a right head and length.
+    pub fn list(&mut self) -> Vec<u8> {
+        let mut flows = self.flows();
+        if self.one_in(4) {
+            self.damage_flows(&mut flows);
+        }
+        let mut list = samples::list(&flows);
+        if self.one_in(10) {
+            self.damage_packed(&mut list, 4, 6);
+        }
+        list
+    }
+
+    /// Spoils the head, the length or any bit of a packed form with so many bytes before its records and in each.
+    fn damage_packed(&mut self, packed: &mut Vec<u8>, front: usize, record: usize) {
+        match self.below(10) {
+            0 => packed[0] = self.next() as u8,
+            1 => packed[0] ^= 1 << self.below(8),
+            2 => packed[1] = 1 << self.below(8),
+            3 => {
+                let count = self.pick(&[0, 1, 2, 127, 128, 129, 255, 256, 1023, 1024, 1025, 65_535]) as u16;
+                packed[2..4].copy_from_slice(&count.to_be_bytes());
+            }
+            4 => packed[3] = packed[3].wrapping_add(self.pick(&[1, 255])),
+            5 => packed.truncate(packed.len() - 1 - self.below(record)),
+            6 => packed.truncate(self.below(front + 1)),
+            7 => packed.resize(packed.len() + 1 + self.below(2 * record), 0),
+            8 => {
+                for byte in packed.iter_mut().skip(front) {
+                    *byte = self.next() as u8;
+                }
+            }
+            _ => {
+                let bit = self.below(8 * packed.len());
+                packed[bit / 8] ^= 1 << (bit % 8);
+            }
+        }
+    }
+
+    /// A sheet: two in three of the form of document 01, with fields that keep their rules or not.
+    pub fn sheet(&mut self) -> Vec<u8> {
+        let mut flows = self.flows();
+        if self.one_in(3) {
+            self.damage_flows(&mut flows);
+        }
+        if self.one_in(8) {
+            let flow = self.below(flows.len());
+            flows[flow][self.below(4)] = self.pick(&[0, 9, 10, 99, 100, 999, 1000, 1024, 4096, 4097, 9999, 10_000]);
+        }
+        let mut sheet = samples::sheet(&flows);
+        if self.one_in(40) {
+            let lines = self.pick(&[1000, 1400]);
+            sheet = sheet.repeat(lines / flows.len() + 1);
+            sheet.truncate(65_536);
+        }
+        while self.one_in(3) {
+            self.damage_text(&mut sheet);
+        }
+        sheet
+    }
+
+    fn damage_text(&mut self, sheet: &mut Vec<u8>) {
+        if sheet.is_empty() {
+            return;
+        }
+        let at = self.below(sheet.len());
+        // The end of the line there.
+        let end = at + sheet[at..].iter().position(|&byte| byte == b'\n').unwrap_or(0);
+        match self.below(16) {
+            0 => sheet[at] ^= 1 << self.below(8),
+            1 => sheet[at] = self.next() as u8,
+            2 => sheet[at] = self.pick(b"\t\r\0\x80\xff 0123456789\n:/"),
+            3 => sheet.insert(at, self.pick(b"\t\r\0\xa0 0123456789\nfx+-")),
+            4 => drop(sheet.remove(at)),
+            5 => sheet.truncate(sheet.len() - 1),
+            6 => sheet.truncate(at),
+            7 => sheet.clear(),
+            8 => sheet.push(self.pick(b"\n \0f")),
+            9 => sheet.insert(end, self.pick(b"\n\r \t0123456789")),
+            10 => sheet.insert(end + 1, b'\n'),
+            11 => sheet.swap(at, end),
+            _ => self.damage_word(sheet, at),
+        }
+    }
+
+    /// Misspells the first such word from a place on, or adds a digit before the number that follows it.
+    fn damage_word(&mut self, sheet: &mut Vec<u8>, at: usize) {
+        let (word, other) = self.pick(&[
+            ("flow", "flo"),
+            ("flow", "Flow"),
+            ("flow ", "flow  "),
+            ("flow ", "flow 0"),
+            ("flow ", "flow 1"),
+            (" size ", " seize "),
+            (" size ", "\tsize "),
+            (" size ", " size 00"),
+            (" every ", " size "),
+            (" every ", " every\t"),
+            (" every ", " every 9"),
+            (" every ", " every"),
+            (" jitter ", " jiter "),
+            (" jitter ", " jitter -"),
+            (" jitter ", " jitter 0"),
+            ("\n", "\r\n"),
+            ("\n", " \n"),
+            ("\n", ""),
+        ]);
+        let found = sheet[at..].windows(word.len()).position(|part| part == word.as_bytes());
+        if let Some(place) = found {
+            sheet.splice(at + place..at + place + word.len(), other.bytes());
+        }
+    }
+
+    // -----------------------------------------------------------------------------------------------------------------
+    // Tables and windows
+    // -----------------------------------------------------------------------------------------------------------------
+
+    /// A list and a table for it: planned where the list can be, and then damaged half the time.
+    pub fn list_and_table(&mut self) -> (Vec<u8>, Vec<u8>) {
+        let mut flows = self.flows();
+        let mut table = vec![0; base::LONGEST_TABLE];
+        match base::plan(&samples::list(&flows), &mut table) {
+            Ok(length) => table.truncate(length),
+            Err(_) => table = self.any_table(&flows),
+        }
+        if self.one_in(3) {
+            self.damage_records(&mut table, &flows);
+        }
+        if self.one_in(4) {
+            self.shift_flow(&mut table, &flows);
+        }
+        if self.one_in(10) {
+            self.damage_packed(&mut table, 8, 5);
+        }
+        if self.one_in(6) {
+            self.vary_flows(&mut flows);
+        }
+        if self.one_in(10) {
+            self.damage_flows(&mut flows);
+        }
+        let mut list = samples::list(&flows);
+        if self.one_in(30) {
+            self.damage_packed(&mut list, 4, 6);
+        }
+        (list, table)
+    }
+
+    /// A table that has the grants of each flow at a nominal time of any choice, each late by any choice, one after
+    /// another: legal now and then.
+    fn any_table(&mut self, flows: &[Fields]) -> Vec<u8> {
+        let frame = flows.iter().map(|flow| flow[INTERVAL]).min().unwrap_or(1);
+        let cycle = flows.iter().map(|flow| flow[INTERVAL]).max().unwrap_or(1);
+        let mut grants = Vec::new();
+        for &[number, _, interval, jitter] in flows {
+            let first = self.between(0, interval - 1);
+            for nominal in (first..cycle).step_by(interval as usize) {
+                let late = if self.one_in(2) { 0 } else { self.between(0, jitter) };
+                grants.push([nominal + late, number, late]);
+            }
+        }
+        grants.sort();
+        grants.dedup_by_key(|grant| grant[0]);
+        grants.retain(|grant| grant[0] < 4096);
+        grants.truncate(1024);
+        samples::table(cycle, frame, &grants)
+    }
+
+    /// Changes a start, a late, a number or spare bits, or removes, doubles or swaps records.
+    fn damage_records(&mut self, table: &mut Vec<u8>, flows: &[Fields]) {
+        let count = (table.len() - 8) / 5;
+        if count == 0 {
+            return;
+        }
+        let place = 8 + 5 * self.below(count);
+        let other = 8 + 5 * self.below(count);
+        let record = &mut table[place..place + 5];
+        let change = self.pick(&[1, 1, 2, 0xFFF, 0xFFF, 0xFFE, 8, 0x100]);
+        match self.below(12) {
+            0 => add(record, change, 0),
+            1 => add(record, 0, change),
+            2 => add(record, change, change),
+            3 => record[4] |= 1 << self.below(6),
+            4 => drop(table.drain(place..place + 5)),
+            5 => {
+                let record = record.to_vec();
+                table.splice(place..place, record);
+            }
+            6 => {
+                for byte in 0..5 {
+                    table.swap(place + byte, other + byte);
+                }
+            }
+            7 => {
+                // The flow number alone: of another flow, or of none.
+                let number = if self.one_in(2) { self.between(0, 1023) } else { self.pick(flows)[NUMBER] };
+                record[0] = (number >> 2) as u8;
+                record[1] = record[1] & 0x3F | (number << 6) as u8;
+            }
+            8 => table[4 + self.below(4)] ^= 1 << self.below(8),
+            9 => add(&mut table[other..other + 5], 0xFFF, 0xFFF),
+            10 => record.fill(0),
+            _ => record[self.below(5)] = self.next() as u8,
+        }
+        let count = ((table.len() - 8) / 5) as u16;
+        table[2..4].copy_from_slice(&count.to_be_bytes());
+    }
+
+    /// Changes start or late of every grant of a flow alike, or of every grant from a record on: the steps stay right.
+    fn shift_flow(&mut self, table: &mut [u8], flows: &[Fields]) {
+        let number = self.pick(flows)[NUMBER];
+        let change = self.pick(&[1, 1, 2, 3, 0xFFF, 0xFFF, 0xFFE, 0xFF0]);
+        let [start, late] = self.pick(&[[change, 0], [0, change], [change, change]]);
+        let all_from = if self.one_in(2) { Some(self.below(table.len() / 5)) } else { None };
+        for (index, record) in table[8..].chunks_exact_mut(5).enumerate() {
+            let same = u32::from(record[0]) << 2 | u32::from(record[1]) >> 6 == number;
+            if all_from.map_or(same, |first| index >= first) {
+                add(record, start, late);
+            }
+        }
+    }
+
+    /// Changes flows after their planning, so that the table may break another rule: more size, less jitter, another
+    /// order, one flow more or fewer, another interval.
+    fn vary_flows(&mut self, flows: &mut Vec<Fields>) {
+        let index = self.below(flows.len());
+        let number = self.between(1, 1023);
+        let several = flows.len() > 1;
+        let flow = &mut flows[index];
+        match self.below(8) {
+            0 | 1 => flow[SIZE] = (flow[SIZE] + self.between(1, 3)).min(flow[INTERVAL]),
+            2 => flow[JITTER] /= 2,
+            3 => flow[JITTER] = flow[INTERVAL] - 1,
+            4 => flows.reverse(),
+            5 if several => drop(flows.remove(index)),
+            6 => {
+                let interval = flow[INTERVAL];
+                flows.push([number, 1, interval, 0]);
+            }
+            _ => flow[INTERVAL] *= self.between(1, 2),
+        }
+    }
+
+    /// Window ends of all kinds: in the cycle, at its end, past it, crossed, equal and very large.
+    fn window(&mut self, table: &[u8]) -> (u64, u64) {
+        let cycle = if table.len() < 6 { 8 } else { u64::from(table[4]) << 8 | u64::from(table[5]) };
+        let mut ends = [0; 2].map(|_| match self.below(10) {
+            0 => 0,
+            1 => cycle,
+            2 => cycle + 1,
+            3 => self.pick(&[4095, 4096, 65_535, 65_536, 1 << 32, (1 << 32) + 1, 1 << 63, u64::MAX]),
+            4 => self.next() >> self.below(64),
+            _ => self.below(cycle as usize + 1) as u64,
+        });
+        if !self.one_in(10) {
+            ends.sort();
+        }
+        if self.one_in(10) {
+            ends[1] = ends[0];
+        }
+        ends.into()
+    }
+}
+
+/// Adds to the start and the late of a table record, each within its width.
+fn add(record: &mut [u8], start: u64, late: u64) {
+    let bits = record.iter().fold(0, |bits, &byte| bits << 8 | u64::from(byte));
+    let moved = |shift: u32, by: u64| (((bits >> shift) + by) & 0xFFF) << shift;
+    let bits = bits & !(0xFFF_FFF << 6) | moved(18, start) | moved(6, late);
+    record.copy_from_slice(&bits.to_be_bytes()[3..]);
+}

@@ -1,0 +1,8 @@
+//! Document 01 written a second time, from that document alone, and what compares the library with it.
+
+pub mod base;
+pub mod generate;
+#[cfg(feature = "library")]
+pub mod library;
+pub mod program;
+pub mod samples;
