@@ -229,6 +229,11 @@ abbrev pub Inside : ℕ → ℕ → ℕ → List Flow → List ℕ → Type 0
 Inside i w j [] ks = Unit {0}
 Inside i w j (f ∷ fs) ks = (f .interval ≡ i → getD ks j 0 < w) × Inside i w (suc j) fs ks
 
+pub inside-entry : (i w j : ℕ) (fs : List Flow) (ks : List ℕ) → Inside i w j fs ks → (d : Flow) (n : ℕ) → n < length fs → getD fs n d .interval ≡ i → getD ks (j + n) 0 < w
+inside-entry i w j [] ks h d n l e = absurd (omega arith)
+inside-entry i w j (f ∷ fs) ks h d zero l e = let z : j + 0 ≡ j = omega arith in rw z (h .0 e)
+inside-entry i w j (f ∷ fs) ks h d (suc n) l e = let z : j + suc n ≡ suc j + n = omega arith in rw z (inside-entry i w (suc j) fs ks (h .1) d n (omega arith) e)
+
 -- a frame before the first index stays
 cells-front : (φ i j n : ℕ) (cs ls ks : List ℕ) (fs : List Flow) → n < j → getD (groupCells φ i j cs ls ks fs .frames) n 0 ≡ getD ks n 0
 unfolding groupCells

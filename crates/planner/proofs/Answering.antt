@@ -30,7 +30,8 @@ use Rattle.planner.specs.Finished.{Finished}
 use Rattle.planner.specs.Rows.{written, Tabled}
 use Rattle.planner.specs.Plan.{test10, grantsPlanned, planTable}
 use Rattle.planner.proofs.Bounds.{frame-present, interval-le}
-use Rattle.planner.proofs.Printing.{Fits, length-table, table-written}
+use Rattle.planner.proofs.Printing.{table-written}
+use Rattle.tables.proofs.Meaning.{Fits, length-table}
 
 -- a list's facts, one by one
 pub facts-are : (f : Facts) (fs : List Flow) → f ≡ factsOf fs → (f .cycle ≡ cycle fs) × (f .frame ≡ frame fs) × (f .grants ≡ grants fs) × (f .load ≡ load fs)
@@ -106,7 +107,7 @@ module _ (l room : List ℕ) (ok : Accepted (flowsOf l)) (φ : ℕ) (e : φ ≡ 
       let gs = rows φ 0 0 (S .settled) in
       let many : n ≡ length gs = q ∙ sym (planned-length fs ok gs (S .laid)) in
       let t : planTable l ≡ tableOf c φ gs = table-is l gs (S .laid) ∙ ap₂ (λ (x y : ℕ). tableOf x y gs) (sym p) (sym e) in
-      let fit : All Fits gs = all-imp _ Fits gs (λ g k. (k .1, omega (arith, k .2, cycle-fits fs ok), k .3)) (planned-fits fs ok gs (S .laid)) in
+      let fit : All Fits gs = all-imp _ Fits gs (λ g k. record { flow-lt = k .1; start-lt = omega (arith, k .2, cycle-fits fs ok); late-lt = k .3 }) (planned-fits fs ok gs (S .laid)) in
       let long : place n ≡ length (planTable l) = ap place many ∙ sym (ap length t ∙ length-table c φ gs) in
       ends-written (test10 fs) (planTable l) room (place n) room′ (test10-passed fs gs (S .laid)) (omega arith) long
       (r ∙ ap (written 0 gs) u

@@ -3,9 +3,10 @@ use mathlib.Core.Path.{_≡_, sym, ap, _∙_}
 use Prim.Native.Nat.{ℕ, _*_, _≤_, _<_}
 use native.Mathlib.Omega.{arith}
 use lib.ListN.{length}
+use Rattle.lists.proofs.Records.{length-flows}
 use Rattle.lists.specs.Lists.{flowsOf}
 use Rattle.layout.proofs.Closing.{Leaves, narrow, left-inside, left-low, added-refused, added-all}
-use Rattle.planner.proofs.Turns.{length-all, inside-at}
+use Rattle.planner.proofs.Turns.{inside-at}
 use borrow.Author.Needs.{needs}
 use Rattle.planner.proofs.groups.add_group.Statement.{statement}
 use Rattle.planner.proofs.groups.add_group.Tie as tie
@@ -25,8 +26,8 @@ leaves : (c : tie.After-place-group) → let a = start c .args in Leaves (a .fra
     (c .before .before .before .before .before .before .before .before .before .before .repeat .last .0) (c .before .before .before .before .before .before .repeat2 .last .0) (c .place-group .last .1 .1 .1 .0) (c .place-group .last .1 .1 .1 .1 .1 .0) (c .place-group .result)
 leaves c =
     record {
-      many = omega (arith, length-all (start c .args .list .now));
-      many′ = omega (arith, length-all (start c .args .list .now));
+      many = omega (arith, length-flows (start c .args .list .now));
+      many′ = omega (arith, length-flows (start c .args .list .now));
       copied = c .before .before .before .before .before .before .before .before .before .before .repeat .ensures;
       copied′ = c .before .before .before .before .before .before .repeat2 .ensures;
       laid = c .place-group .ensures;

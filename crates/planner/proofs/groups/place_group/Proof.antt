@@ -6,7 +6,7 @@ use lib.ListN.{length}
 use borrow.Author.Tests.{not-true, not-false}
 use Rattle.lists.specs.Lists.{count, flowsOf}
 use Rattle.layout.specs.Cells.{groupCells}
-use Rattle.planner.proofs.Turns.{rest, rest-all, group-turn, group-stop, group-end}
+use Rattle.planner.proofs.Turns.{rest, group-turn, group-stop, group-end}
 use borrow.Author.Needs.{needs}
 use Rattle.planner.proofs.groups.place_group.Statement.{statement}
 use Rattle.planner.proofs.groups.place_group.Tie as tie
@@ -23,7 +23,7 @@ count-requires : tie.Need-count-requires Inv-loop μ-loop
 count-requires c κs = search needs
 
 loop-holds : tie.Need-loop-holds Inv-loop μ-loop
-loop-holds c = (omega arith, c .count .ensures .0, refl, refl, ap (groupCells _ _ 0 _ _ _) (rest-all _))
+loop-holds c = (omega arith, c .count .ensures .0, refl, refl, refl)
 
 flow-at-requires : tie.Need-flow-at-requires Inv-loop μ-loop
 flow-at-requires c κs = search needs

@@ -6,7 +6,7 @@ use lib.ListN.{length, getD}
 use Rattle.fields.specs.declared.flow.Flow.{Flow}
 use Rattle.lists.specs.Lists.{count, flowsOf}
 use Rattle.layout.specs.Cells.{endCells}
-use Rattle.planner.proofs.Turns.{rest, rest-all, settle-turn, settle-end}
+use Rattle.planner.proofs.Turns.{rest, settle-turn, settle-end}
 use borrow.Author.Needs.{needs}
 use Rattle.planner.proofs.groups.settle_group.Statement.{statement}
 use Rattle.planner.proofs.groups.settle_group.Tie as tie
@@ -23,7 +23,7 @@ count-requires : tie.Need-count-requires Inv-loop μ-loop
 count-requires c κs = search needs
 
 loop-holds : tie.Need-loop-holds Inv-loop μ-loop
-loop-holds c = (omega arith, c .count .ensures .0, refl, refl, ap (endCells _ _ 0 _ _ _ _) (rest-all _))
+loop-holds c = (omega arith, c .count .ensures .0, refl, refl, refl)
 
 flow-at-requires : tie.Need-flow-at-requires Inv-loop μ-loop
 flow-at-requires c κs = search needs

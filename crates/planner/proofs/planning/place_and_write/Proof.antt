@@ -4,10 +4,10 @@ use Prim.Native.Nat.{ℕ, _-_, _/_, _≤_}
 use native.Mathlib.Nat.{sub-zero}
 use native.Mathlib.Omega.{arith}
 use lib.ListN.{length}
+use Rattle.lists.proofs.Records.{length-flows}
 use Rattle.lists.specs.Lists.{flowsOf}
 use Rattle.lists.specs.Facts.{cycle, frame, grants, load}
 use Rattle.lists.proofs.Cycle.{frame-pos}
-use Rattle.planner.proofs.Turns.{length-all}
 use Rattle.planner.proofs.Answering.{facts-are, Standing, answer-refused, answer-standing, answer-written}
 use borrow.Author.Needs.{needs}
 use Rattle.planner.proofs.planning.place_and_write.Statement.{statement}
@@ -55,7 +55,7 @@ place-all-requires : tie.Need-place-all-requires
 place-all-requires c κs =
     let s = c .before .before .before .before .before .before .before .before .before .before .before in
     let e = c .before .before .before .before .before .before .before .before .empty .ensures in
-    let n = length-all (s .args .list .now) in
+    let n = length-flows (s .args .list .now) in
     let few = s .pre .0 .few in
     ((omega (arith, ap length (e .1 .0), few), omega (arith, ap length (e .1 .1), few)), ((s .pre .0, facts s .1), e .0))
 
@@ -108,7 +108,7 @@ write-grants-requires c κs =
     let p = placed d in
     let s = start p in
     let e = p .before .before .before .before .before .before .before .before .before .empty .ensures in
-    let n = length-all (s .args .list .now) in
+    let n = length-flows (s .args .list .now) in
     let few = s .pre .0 .few in
     let S = standing d in (
       (omega (arith, p .place-all .kept .1 .1 .1 .1 .0, ap length (e .1 .0), few), omega (arith, p .place-all .kept .1 .1 .1 .1 .1 .0, ap length (e .1 .1), few)),
