@@ -7,3 +7,4 @@ pub mod Tabling
 pub mod Printing
 pub mod Answering
 pub mod Verdicts
+pub mod Passes

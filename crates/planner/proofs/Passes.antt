@@ -1,0 +1,93 @@
+-- What planning writes passes the check, for every list and room. Assumes nothing.
+use mathlib.Core.Path.{_≡_, refl}
+use mathlib.Core.Bool.{true}
+use mathlib.Core.List.{List, [], _∷_, List·Memᴰ·head}
+use Prim.Native.Nat.{ℕ, _*_, _/_, _≤_, _<_}
+use native.Mathlib.Omega.{arith}
+use borrow.Author.Tests.{eq-eqb}
+use Rattle.logic.specs.Lists.{sum}
+use Rattle.logic.proofs.Tests.{by-lt, both-and}
+use Rattle.logic.proofs.Members.{all-imp}
+use Rattle.fields.specs.declared.flow.Flow.{Flow}
+use Rattle.refusals.specs.declared.Refusal.the-variants.{TableForm, OtherCycle, NoFrame}
+use Rattle.refusals.specs.declared.Checked.the-variants.{Passed, Refused}
+use Rattle.refusals.proofs.Chains.{refused-not, both-passed, passed-both, unless-yes}
+use Rattle.lists.specs.Lists.{flowsOf}
+use Rattle.lists.specs.Facts.{cycle, frame, grantsOf as grantsEach, grants}
+use Rattle.lists.specs.Tests.{tests1to7}
+use Rattle.lists.specs.Accepted.{Accepted}
+use Rattle.lists.proofs.Accepted.{accepted}
+use Rattle.lists.proofs.Cycle.{interval-pos, cycle-le, divides-cycle}
+use Rattle.lists.proofs.Turns.{least-le}
+use Rattle.tables.specs.declared.packed.Grant.{Grant}
+use Rattle.tables.specs.Tables.{grantsOf, tableOf}
+use Rattle.tables.specs.Form.{test11, formTests}
+use Rattle.tables.proofs.Meaning.{Fits, Holds, cycle-table, frame-table, grants-table, formed-table}
+use Rattle.law.specs.Check.{known, test13, check}
+use Rattle.law.proofs.Demand.{check-parts}
+use Rattle.placing.specs.Rule.{Outcome, done, refused, planned}
+use Rattle.placing.proofs.Passes.{planned-passes, planned-length, planned-fits, cycle-fits}
+use Rattle.planner.specs.Plan.{test8, test9, test10, planTests, grantsPlanned, planTable}
+
+-- where test 10 passes the list is planned
+pub placed : (fs : List Flow) → test10 fs ≡ Passed → planned fs ≡ done (grantsPlanned fs)
+unfolding test10 grantsPlanned
+placed fs e = go (planned fs) e
+  where
+    go : (o : Outcome (List Grant)) → elim o [ done gs ↦ Passed | refused p ↦ Refused (NoFrame p) ] ≡ Passed → o ≡ done (elim o [ done gs ↦ gs | refused p ↦ [] ])
+    go (done gs) q = refl
+    go (refused p) q = refused-not (NoFrame p) q
+
+-- an accepted list has grants
+grants-pos : (fs : List Flow) → Accepted fs → 1 ≤ grants fs
+unfolding grants grantsEach sum
+grants-pos [] ok = absurd (omega (arith, ok .filled))
+grants-pos (f ∷ fs) ok =
+    let m = List·Memᴰ·head refl in
+    let c = cycle (f ∷ fs) in
+    by-lt 0 (c / f .interval) (λ h. omega arith)
+    (λ h.
+    let z : c / f .interval ≡ 0 = omega arith in
+    let e : 0 * f .interval ≡ c = rw z at (divides-cycle (f ∷ fs) ok f m) in
+    absurd (omega (arith, interval-pos (f ∷ fs) ok f m, cycle-le (f ∷ fs) f m)))
+
+module _ (fs : List Flow) (ok : Accepted fs) (gs : List Grant) (e : planned fs ≡ done gs) where
+  -- a packed table can hold what is planned
+  pub held : Holds (cycle fs) (frame fs) gs
+  unfolding frame
+  held =
+      let n = planned-length fs ok gs e in
+      record {
+        filled = omega (arith, n, grants-pos fs ok);
+        few = omega (arith, n, ok .grants-le);
+        fits =
+            all-imp (λ g. (known fs (g .flow) ≡ true) × (g .flow < 1024) × (g .start < cycle fs) × (g .late < 4096)) Fits gs
+            (λ g h. record { flow-lt = h .1; start-lt = omega (arith, cycle-fits fs ok); late-lt = h .3 }) (planned-fits fs ok gs e);
+        cycle-lt = omega (arith, cycle-fits fs ok);
+        frame-lt = omega (arith, cycle-fits fs ok, least-le (cycle fs) fs);
+      }
+
+-- DEMAND 2, of the planner: the table of every accepted plan passes the check
+pub plan-passes : (l : List ℕ) (n : ℕ) → planTests l n ≡ Passed → check l (planTable l) ≡ Passed
+unfolding planTests planTable formTests test11 test13
+plan-passes l n e =
+    let fs = flowsOf l in
+    let gs = grantsPlanned fs in
+    let a = both-passed (tests1to7 l) _ e in
+    let b = both-passed (test8 fs) _ (a .1) in
+    let c = both-passed (test9 fs n) _ (b .1) in
+    let ok = accepted l (a .0) in
+    let is = placed fs (c .1) in
+    let h = held fs ok gs is in
+    let pass = planned-passes fs ok gs is in
+    let back : grantsOf (tableOf (cycle fs) (frame fs) gs) ≡ gs = grants-table (cycle fs) (frame fs) gs h in
+    check-parts l (planTable l) .1
+    (record {
+      list = a .0;
+      form =
+          passed-both (test11 (tableOf (cycle fs) (frame fs) gs)) _ (unless-yes _ TableForm (formed-table (cycle fs) (frame fs) gs h)) (rw back (pass .0));
+      belongs =
+          unless-yes _ OtherCycle
+          (both-and _ _ (eq-eqb _ (cycle fs) (cycle-table (cycle fs) (frame fs) gs h)) (eq-eqb _ (frame fs) (frame-table (cycle fs) (frame fs) gs h)));
+      rules = rw back (pass .1);
+    })
