@@ -1,0 +1,3 @@
+pub mod Demand3
+pub mod Exactly
+pub mod Cases

@@ -1,0 +1,30 @@
+-- `hub::c::snowploughy_list_from_sheet` meets its contract.
+-- Assumes nothing.
+use mathlib.Core.Path.{ap, _∙_}
+use borrow.Author.Needs.{needs}
+use Rattle.hub.specs.Codes.{code, value}
+use Rattle.hub.proofs.c.snowploughy_list_from_sheet.Statement.{statement}
+use Rattle.hub.proofs.c.snowploughy_list_from_sheet.Tie as tie
+use Rattle.hub.proofs.c.snowploughy_list_from_sheet.Reads as reads
+use Rattle.hub.proofs.c.snowploughy_list_from_sheet.Lts as lts
+use Rattle.hub.proofs.c.report.Reads as report-reads
+use Rattle.sheets.proofs.list_from_sheet.Reads as list-from-sheet-reads
+
+list-from-sheet-requires : tie.Need-list-from-sheet-requires
+list-from-sheet-requires c κs = search needs
+
+report-requires : tie.Need-report-requires
+report-requires c κs = search needs
+
+same-length : tie.Need-same-length
+same-length c = search needs
+
+returns : tie.Need-returns
+returns c =
+    let made = c .before .before .before .before .list-from-sheet .ensures in
+    let told = c .report .ensures in
+    (told .0 ∙ ap code (made .0), (told .1 ∙ ap value (made .0), made .1))
+
+pub snowploughy-list-from-sheet-spec : {M : Type 1} → statement M
+snowploughy-list-from-sheet-spec =
+    tie.close (tie.spec list-from-sheet-requires report-requires same-length returns)

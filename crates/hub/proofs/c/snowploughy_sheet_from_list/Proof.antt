@@ -1,0 +1,30 @@
+-- `hub::c::snowploughy_sheet_from_list` meets its contract.
+-- Assumes nothing.
+use mathlib.Core.Path.{ap, _∙_}
+use borrow.Author.Needs.{needs}
+use Rattle.hub.specs.Codes.{code, value}
+use Rattle.hub.proofs.c.snowploughy_sheet_from_list.Statement.{statement}
+use Rattle.hub.proofs.c.snowploughy_sheet_from_list.Tie as tie
+use Rattle.hub.proofs.c.snowploughy_sheet_from_list.Reads as reads
+use Rattle.hub.proofs.c.snowploughy_sheet_from_list.Lts as lts
+use Rattle.hub.proofs.c.report.Reads as report-reads
+use Rattle.sheets.proofs.sheet_from_list.Reads as sheet-from-list-reads
+
+sheet-from-list-requires : tie.Need-sheet-from-list-requires
+sheet-from-list-requires c κs = search needs
+
+report-requires : tie.Need-report-requires
+report-requires c κs = search needs
+
+same-length : tie.Need-same-length
+same-length c = search needs
+
+returns : tie.Need-returns
+returns c =
+    let made = c .before .before .before .before .sheet-from-list .ensures in
+    let told = c .report .ensures in
+    (told .0 ∙ ap code (made .0), (told .1 ∙ ap value (made .0), made .1))
+
+pub snowploughy-sheet-from-list-spec : {M : Type 1} → statement M
+snowploughy-sheet-from-list-spec =
+    tie.close (tie.spec sheet-from-list-requires report-requires same-length returns)

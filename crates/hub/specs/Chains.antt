@@ -1,0 +1,49 @@
+-- The tests of every operation, one after the other as document 01 lists them. Assumes nothing.
+use mathlib.Core.List.{List, [], _∷_, _++_}
+use Prim.Native.Nat.{ℕ}
+use lib.Dec.{leb}
+use lib.ListN.{length}
+use Rattle.refusals.specs.declared.Refusal.the-variants.{Room}
+use Rattle.refusals.specs.declared.Checked.{Checked}
+use Rattle.refusals.specs.Tests.{unless}
+use Rattle.lists.specs.Lists.{count, flowsOf}
+use Rattle.lists.specs.Tests.{test1, test2, test3, test1exact, test4, test5, test6, test7}
+use Rattle.tables.specs.Tables.{grantsOf}
+use Rattle.tables.specs.Form.{test11, test12}
+use Rattle.tables.specs.Window.{test19}
+use Rattle.law.specs.Check.{test13, test14, test15, test16, test17, test18}
+use Rattle.planner.specs.Plan.{test8, test9, test10}
+
+-- 1 to 4 of a list
+abbrev pub chain1to4 : List ℕ → List Checked
+chain1to4 l = test1 l ∷ test2 l ∷ test3 (count l) ∷ test1exact l ∷ test4 (flowsOf l) ∷ []
+
+-- 1 to 7 of a list
+abbrev pub chain1to7 : List ℕ → List Checked
+chain1to7 l = chain1to4 l ++ (test5 (flowsOf l) ∷ test6 (flowsOf l) ∷ test7 (flowsOf l) ∷ [])
+
+-- "Planning tests 1 to 10": a list, for a room of n bytes
+abbrev pub planChain : List ℕ → ℕ → List Checked
+planChain l n = chain1to7 l ++ (test8 (flowsOf l) ∷ test9 (flowsOf l) n ∷ test10 (flowsOf l) ∷ [])
+
+-- 11 and 12 of a table
+abbrev pub formChain : List ℕ → List Checked
+formChain t = test11 t ∷ test12 (grantsOf t) ∷ []
+
+-- 13 to 18 of a table against its list
+abbrev pub lawChain : List ℕ → List ℕ → List Checked
+lawChain l t =
+    test13 (flowsOf l) t ∷ test14 (flowsOf l) (grantsOf t) ∷ test15 (flowsOf l) (grantsOf t) ∷ test16 (flowsOf l) (grantsOf t)
+    ∷ test17 (flowsOf l) (grantsOf t) ∷ test18 (flowsOf l) (grantsOf t) ∷ []
+
+-- "The check tests the list by 1 to 7, then 11 to 18"
+abbrev pub checkChain : List ℕ → List ℕ → List Checked
+checkChain l t = chain1to7 l ++ (formChain t ++ lawChain l t)
+
+-- "The window tests 11, 12, 19"
+abbrev pub windowChain : List ℕ → ℕ → ℕ → List Checked
+windowChain t a b = formChain t ++ (test19 t a b ∷ [])
+
+-- 9: room to write is too short for these bytes
+unfoldable pub roomTest : List ℕ → ℕ → Checked
+roomTest bs n = unless (leb (length bs) n) Room

@@ -1,0 +1,96 @@
+// The C interface: each function answers 0 when its work is done, and otherwise the refusal's number in document 01. It adds
+// nothing to the operation that it calls. The names begin with the product's, since C has one space of names.
+ghost use mathlib.Core.Path.{_≡_};
+ghost use lib.ListN.{length};
+ghost use Rattle.sheets.specs.Answers.{listAnswer, listRoom, sheetAnswer, sheetRoom};
+ghost use Rattle.planner.specs.Plan.{planAnswer, planRoom};
+ghost use Rattle.tables.specs.Window.{edgesOf};
+ghost use Rattle.hub.specs.Codes.{code, value, checkCode, checkValue, windowCode, windowFirst, windowBytes};
+use refusals::Checked;
+use refusals::Written;
+use tables::Edges;
+
+// What was written as a number, with the bytes or the place through the pointer.
+fn report(made: Written, out: &mut u64) -> u32
+    ensures { λ r. ⌜ (r ≡ code made) × (now (out .exit) ≡ value made) ⌝ }
+{
+    match made {
+        Written::Bytes(n) => {
+            *out = n as u64;
+            0
+        }
+        Written::Refused(r) => {
+            *out = r.place() as u64;
+            r.number()
+        }
+    }
+}
+
+// Sheet to list: tests 20, 3, 4 and 9.
+#[no_mangle]
+pub extern "C" fn snowploughy_list_from_sheet(
+    sheet: &[u8],
+    room: &mut [u8],
+    out: &mut u64,
+) -> u32
+    ensures number { λ r. ⌜ r ≡ code (listAnswer (now (sheet .entry)) (length (now (room .entry)))) ⌝ }
+    ensures value { λ _. ⌜ now (out .exit) ≡ value (listAnswer (now (sheet .entry)) (length (now (room .entry)))) ⌝ }
+    ensures room { λ _. ⌜ now (room .exit) ≡ listRoom (now (sheet .entry)) (now (room .entry)) ⌝ }
+{
+    let made = sheets::list_from_sheet(sheet, room);
+    report(made, out)
+}
+
+// List to sheet: tests 1 to 4 and 9.
+#[no_mangle]
+pub extern "C" fn snowploughy_sheet_from_list(
+    list: &[u8],
+    room: &mut [u8],
+    out: &mut u64,
+) -> u32
+    ensures number { λ r. ⌜ r ≡ code (sheetAnswer (now (list .entry)) (length (now (room .entry)))) ⌝ }
+    ensures value { λ _. ⌜ now (out .exit) ≡ value (sheetAnswer (now (list .entry)) (length (now (room .entry)))) ⌝ }
+    ensures room { λ _. ⌜ now (room .exit) ≡ sheetRoom (now (list .entry)) (now (room .entry)) ⌝ }
+{
+    let made = sheets::sheet_from_list(list, room);
+    report(made, out)
+}
+
+// Planning: tests 1 to 10.
+#[no_mangle]
+pub extern "C" fn snowploughy_plan(list: &[u8], room: &mut [u8], out: &mut u64) -> u32
+    ensures number { λ r. ⌜ r ≡ code (planAnswer (now (list .entry)) (length (now (room .entry)))) ⌝ }
+    ensures value { λ _. ⌜ now (out .exit) ≡ value (planAnswer (now (list .entry)) (length (now (room .entry)))) ⌝ }
+    ensures room { λ _. ⌜ now (room .exit) ≡ planRoom (now (list .entry)) (now (room .entry)) ⌝ }
+{
+    let made = planner::plan(list, room);
+    report(made, out)
+}
+
+// The grants that start in a window, as a stretch of the table: tests 11, 12 and 19.
+#[no_mangle]
+pub extern "C" fn snowploughy_window(
+    table: &[u8],
+    a: u64,
+    b: u64,
+    first: &mut u64,
+    bytes: &mut u64,
+) -> u32
+    ensures number { λ r. ⌜ r ≡ windowCode (edgesOf (now (table .entry)) a b) ⌝ }
+    ensures first { λ _. ⌜ now (first .exit) ≡ windowFirst (edgesOf (now (table .entry)) a b) ⌝ }
+    ensures bytes { λ _. ⌜ now (bytes .exit) ≡ windowBytes (edgesOf (now (table .entry)) a b) ⌝ }
+{
+    let edges = tables::edges_of(table, a, b);
+    match edges {
+        Edges::Bytes(i, e) => {
+            *first = i as u64;
+            *bytes = (e - i) as u64;
+            0
+        }
+        Edges::Refused(r) => {
+            *first = 0;
+            *bytes = 0;
+            r.number()
+        }
+    }
+}
