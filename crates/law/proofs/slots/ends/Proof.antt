@@ -1,0 +1,19 @@
+-- `law::slots::ends` meets its contract.
+-- Assumes nothing.
+use mathlib.Core.Path.{_≡_, refl, sym, ap, _∙_}
+use borrow.Author.Needs.{needs}
+use Rattle.law.specs.Check.{slots}
+use Rattle.law.proofs.slots.ends.Statement.{statement}
+use Rattle.law.proofs.slots.ends.Tie as tie
+
+end-of-requires : tie.Need-end-of-requires
+end-of-requires c κs = search needs
+
+wide-requires : tie.Need-wide-requires
+wide-requires c κs = search needs
+
+returns : tie.Need-returns
+returns c = rw (c .before .end-of .ensures, c .wide .ensures .0)
+
+pub ends-spec : {M : Type 1} → statement M
+ends-spec = tie.close (tie.spec end-of-requires wide-requires returns)
