@@ -1,8 +1,8 @@
 -- One turn of each loop of the check: what is left to look at, at entry i. Assumes nothing.
-use mathlib.Core.Path.{_≡_, refl, sym, ap, _∙_}
+use mathlib.Core.Path.{_≡_, ap, _∙_}
 use mathlib.Core.Bool.{true, false}
-use mathlib.Core.List.{List, [], _∷_}
-use mathlib.Core.Option.{none, some}
+use mathlib.Core.List.{List, _∷_}
+use mathlib.Core.Option.{some}
 use Prim.Native.Nat.{ℕ, suc, _+_, _≤_, _<_}
 use native.Mathlib.Numerals.{add-one}
 use native.Mathlib.Omega.{arith}
@@ -13,7 +13,6 @@ use Rattle.fields.specs.declared.flow.Flow.{Flow}
 use Rattle.fields.specs.Flows.{noFlow}
 use Rattle.refusals.proofs.Walks.{before}
 use Rattle.tables.specs.declared.packed.Grant.{Grant}
-use Rattle.law.specs.declared.flows.Found.{Found}
 use Rattle.law.specs.Check.{known, look, nominal, to, last}
 use Rattle.law.specs.Law.{blank}
 use Rattle.law.specs.Parts.{found}

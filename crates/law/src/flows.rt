@@ -18,8 +18,14 @@ pub fn find(list: &[u8], number: u16) -> Found
     for i in 0..n {
         let f = lists::flow_at(list, i);
         if f.number == number {
-            return Found { known: true, flow: f };
+            return Found {
+                known: true,
+                flow: f,
+            };
         }
     }
-    Found { known: false, flow: Flow::none() }
+    Found {
+        known: false,
+        flow: Flow::none(),
+    }
 }

@@ -1,14 +1,12 @@
 -- `law::counts::grants_to` meets its contract.
 -- Assumes nothing.
-use mathlib.Core.Path.{_≡_, refl, sym, ap, _∙_}
 use mathlib.Core.Logic.{⊎-elim}
-use Prim.Native.Nat.{ℕ, _+_, _-_, _≤_, _<_}
+use Prim.Native.Nat.{_-_, _≤_, _<_}
 use native.Mathlib.Omega.{arith}
-use lib.ListN.{length, getD, drop}
+use lib.ListN.{length}
 use borrow.Author.Needs.{needs}
 use Rattle.tables.specs.Tables.{count, grantsOf}
 use Rattle.tables.proofs.Records.{length-grants, grant-is}
-use Rattle.law.specs.Check.{to}
 use Rattle.law.specs.Law.{blank}
 use Rattle.law.proofs.Turns.{CountAt, count-end, count-own, count-other}
 use Rattle.law.proofs.counts.grants_to.Statement.{statement}

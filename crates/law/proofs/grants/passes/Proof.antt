@@ -1,14 +1,13 @@
 -- `law::grants::passes` meets its contract.
 -- Assumes nothing.
-use mathlib.Core.Path.{_≡_, refl, sym, ap, _∙_}
+use mathlib.Core.Path.{_≡_, ap, _∙_}
+use mathlib.Core.List.{List}
 use borrow.Author.Needs.{needs}
-use Rattle.refusals.proofs.Walks.{before}
-use Rattle.lists.specs.Lists.{flowsOf}
-use Rattle.tables.specs.Tables.{grantsOf}
+use Rattle.fields.specs.declared.flow.Flow.{Flow}
+use Rattle.tables.specs.declared.packed.Grant.{Grant}
 use Rattle.law.specs.declared.flows.Found.{Found}
 use Rattle.law.specs.declared.grants.Test.{Test}
 use Rattle.law.specs.Check.{listed}
-use Rattle.law.specs.Law.{blank}
 use Rattle.law.specs.Parts.{passes}
 use Rattle.law.proofs.grants.passes.Statement.{statement}
 use Rattle.law.proofs.grants.passes.Tie as tie
@@ -37,26 +36,21 @@ enum-known-test c = search needs
 ends-requires : tie.Need-ends-requires
 ends-requires c κs = search needs
 
+told : (fs : List Flow) (seen : List Grant) (g : Grant) (test arm : Test) → test ≡ arm → passes arm fs seen g ≡ passes test fs seen g
+told fs seen g test arm e = rw e
+
 returns : tie.Need-returns
 unfolding listed
-returns c =
-    let a = c .before .before .before .before .before .args in
-    ap (λ (x : Found). x .known) (c .find .ensures) ∙ ap (λ (test : Test). passes test (flowsOf (a .list .now)) (before (grantsOf (a .table .now)) blank (a .i)) (a .g)) (sym (c .before .enum-told .given .1))
+returns c = ap (λ (x : Found). x .known) (c .find .ensures) ∙ told _ _ _ _ _ (c .before .enum-told .given .1)
 
 returns-2 : tie.Need-returns-2
-returns-2 c =
-    let a = c .before .before .before .before .before .args in
-    c .timely .ensures ∙ ap (λ (test : Test). passes test (flowsOf (a .list .now)) (before (grantsOf (a .table .now)) blank (a .i)) (a .g)) (sym (c .before .enum-told2 .given .1))
+returns-2 c = c .timely .ensures ∙ told _ _ _ _ _ (c .before .enum-told2 .given .1)
 
 returns-3 : tie.Need-returns-3
-returns-3 c =
-    let a = c .before .before .before .before .before .args in
-    c .clears .ensures ∙ ap (λ (test : Test). passes test (flowsOf (a .list .now)) (before (grantsOf (a .table .now)) blank (a .i)) (a .g)) (sym (c .before .enum-told3 .given .1))
+returns-3 c = c .clears .ensures ∙ told _ _ _ _ _ (c .before .enum-told3 .given .1)
 
 returns-4 : tie.Need-returns-4
-returns-4 c =
-    let a = c .before .before .before .before .before .before .args in
-    c .ends .ensures ∙ ap (λ (test : Test). passes test (flowsOf (a .list .now)) (before (grantsOf (a .table .now)) blank (a .i)) (a .g)) (sym (c .before .before .test .given .1))
+returns-4 c = c .ends .ensures ∙ told _ _ _ _ _ (c .before .before .test .given .1)
 
 pub passes-spec : {M : Type 1} → statement M
 passes-spec =

@@ -1,6 +1,5 @@
 -- `law::slots::clears` meets its contract.
 -- Assumes nothing.
-use mathlib.Core.Path.{_≡_, refl, sym, ap, _∙_}
 use native.Mathlib.Omega.{arith}
 use Prim.Native.Nat.{_-_}
 use borrow.Author.Needs.{needs}
@@ -8,7 +7,6 @@ use Rattle.refusals.specs.Tests.{after}
 use Rattle.lists.specs.Lists.{flowsOf}
 use Rattle.tables.specs.Tables.{grantsOf}
 use Rattle.tables.proofs.Records.{grant-is}
-use Rattle.law.specs.Check.{clears}
 use Rattle.law.specs.Law.{blank}
 use Rattle.law.proofs.Verdicts.{clears-is}
 use Rattle.law.proofs.slots.clears.Statement.{statement}

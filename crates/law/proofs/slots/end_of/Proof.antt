@@ -1,6 +1,5 @@
 -- `law::slots::end_of` meets its contract.
 -- Assumes nothing.
-use mathlib.Core.Path.{_≡_, refl, sym, ap, _∙_}
 use borrow.Author.Needs.{needs}
 use Rattle.law.specs.Check.{slots}
 use Rattle.law.proofs.slots.end_of.Statement.{statement}

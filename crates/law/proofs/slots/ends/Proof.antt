@@ -1,8 +1,6 @@
 -- `law::slots::ends` meets its contract.
 -- Assumes nothing.
-use mathlib.Core.Path.{_≡_, refl, sym, ap, _∙_}
 use borrow.Author.Needs.{needs}
-use Rattle.law.specs.Check.{slots}
 use Rattle.law.proofs.slots.ends.Statement.{statement}
 use Rattle.law.proofs.slots.ends.Tie as tie
 

@@ -1,14 +1,13 @@
 -- `law::timing::steps` meets its contract.
 -- Assumes nothing.
-use mathlib.Core.Path.{_≡_, refl, sym, ap, _∙_}
-use mathlib.Core.Option.{Option, some, none}
-use Prim.Native.Nat.{ℕ, _+_, _-_, _≤_, _<_}
+use mathlib.Core.Path.{_≡_, refl, sym, _∙_}
+use mathlib.Core.Option.{none}
+use Prim.Native.Nat.{_-_, _≤_}
 use native.Mathlib.Omega.{arith}
-use lib.Dec.{eqb, ltb}
-use lib.ListN.{length, getD}
+use lib.ListN.{getD}
 use borrow.Author.Needs.{needs}
 use Rattle.refusals.proofs.Walks.{before}
-use Rattle.tables.specs.Tables.{count, grantsOf}
+use Rattle.tables.specs.Tables.{grantsOf}
 use Rattle.tables.proofs.Records.{grant-is}
 use Rattle.law.specs.Check.{nominal, last, steps}
 use Rattle.law.specs.Law.{blank}
