@@ -3,6 +3,7 @@
 ghost use mathlib.Core.Path.{_≡_};
 ghost use lib.ListN.{length};
 ghost use Rattle.sheets.specs.Answers.{listAnswer, listRoom, sheetAnswer, sheetRoom};
+ghost use Rattle.law.specs.Check.{check};
 ghost use Rattle.planner.specs.Plan.{planAnswer, planRoom};
 ghost use Rattle.tables.specs.Window.{edgesOf};
 ghost use Rattle.hub.specs.Codes.{code, value, checkCode, checkValue, windowCode, windowFirst, windowBytes};
@@ -65,6 +66,25 @@ pub extern "C" fn snowploughy_plan(list: &[u8], room: &mut [u8], out: &mut u64) 
 {
     let made = planner::plan(list, room);
     report(made, out)
+}
+
+// The check of a table against its list: tests 1 to 7 and 11 to 18. It writes nothing but the place.
+#[no_mangle]
+pub extern "C" fn snowploughy_check(list: &[u8], table: &[u8], out: &mut u64) -> u32
+    ensures number { λ r. ⌜ r ≡ checkCode (check (now (list .entry)) (now (table .entry))) ⌝ }
+    ensures value { λ _. ⌜ now (out .exit) ≡ checkValue (check (now (list .entry)) (now (table .entry))) ⌝ }
+{
+    let checked = law::check(list, table);
+    match checked {
+        Checked::Passed => {
+            *out = 0;
+            0
+        }
+        Checked::Refused(r) => {
+            *out = r.place() as u64;
+            r.number()
+        }
+    }
 }
 
 // The grants that start in a window, as a stretch of the table: tests 11, 12 and 19.

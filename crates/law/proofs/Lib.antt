@@ -8,4 +8,6 @@ pub mod Reading
 pub mod CheckIsLaw
 pub mod Demand
 pub mod Oversold
+pub mod Turns
+pub mod Verdicts
 pub mod Cases

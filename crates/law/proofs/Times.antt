@@ -1,6 +1,6 @@
 -- Test 16, grant by grant, is one progression for each flow. Assumes nothing.
 use mathlib.Core.Path.{_≡_, refl, sym, ap, _∙_}
-use mathlib.Core.Bool.{true}
+use mathlib.Core.Bool.{true, false}
 use mathlib.Core.List.{List, [], _∷_, map}
 use mathlib.Core.Option.{Option, none, some}
 use Prim.Native.Nat.{ℕ, zero, suc, _+_, _≤_, _<_}
@@ -72,10 +72,13 @@ timely-inv z fs seen r h =
     (λ q. true-not-false (sym (rw q at k))))
     (λ e. true-not-false (sym (rw (e, timely) at h)))
 
-timely-is : (z : ℕ) (fs : List Flow) (seen : List Grant) (r : Grant) → Punctual z fs r
-    → steps (look fs (r .flow) .interval) (last z (r .flow) seen) (nominal z r) ≡ true → timely z fs seen r ≡ true
+pub timely-is : (z : ℕ) (fs : List Flow) (seen : List Grant) (r : Grant) → Punctual z fs r
+    → timely z fs seen r ≡ steps (look fs (r .flow) .interval) (last z (r .flow) seen) (nominal z r)
 unfolding timely
-timely-is z fs seen r p h = rw (le-leb (r .late) (look fs (r .flow) .jitter) (p .0), timely) (rw (le-leb (r .late) (z + r .start) (p .1)) h)
+timely-is z fs seen r p = rw (le-leb (r .late) (look fs (r .flow) .jitter) (p .0), timely) (rw (le-leb (r .late) (z + r .start) (p .1)))
+
+pub not-timely : (z : ℕ) (fs : List Flow) (seen : List Grant) (r : Grant) → (Punctual z fs r → ⊥) → false ≡ timely z fs seen r
+not-timely z fs seen r n = by-test (timely z fs seen r) (λ e. absurd (n (timely-inv z fs seen r e .0))) sym
 
 module _ (z : ℕ) (fs : List Flow) (d : Distinct fs) where
   pub pass-times : (seen rs : List Grant) → All (λ r. known fs (r .flow) ≡ true) rs → Pass (against (timely z fs) seen rs) → Times z fs seen rs
@@ -101,7 +104,7 @@ module _ (z : ℕ) (fs : List Flow) (d : Distinct fs) where
   times-pass seen (r ∷ rs) k t =
       let g = known-mem fs (r .flow) (k .0) in
       let own = rw (eq-eqb (r .flow) (look fs (r .flow) .number) (sym (g .1)), to) at (t .follows (look fs (r .flow)) (g .0)) in (
-        timely-is z fs seen r (t .punctual .0) (rw (g .1) at (own .0)),
+        timely-is z fs seen r (t .punctual .0) ∙ rw (g .1) at (own .0),
         times-pass (r ∷ seen) rs (k .1) (record {
           punctual = t .punctual .1;
           follows = λ f m.

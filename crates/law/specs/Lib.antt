@@ -1,3 +1,4 @@
 pub mod Check
 pub mod Law
 pub mod Lawful
+pub mod Parts

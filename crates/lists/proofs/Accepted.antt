@@ -1,29 +1,25 @@
 -- What passes tests 1 to 7 is an accepted list. Assumes nothing.
-use mathlib.Core.Path.{_≡_, refl, sym, ap}
-use mathlib.Core.Bool.{true, not, _&&_}
+use mathlib.Core.Path.{_≡_, sym}
+use mathlib.Core.Bool.{true, not}
 use mathlib.Core.List.{List, [], _∷_}
-use Prim.Native.Nat.{ℕ, zero, suc, _/_}
-use lib.Dec.{leb, eqb}
-use lib.ListN.{length}
-use borrow.Author.Tests.{leb-true, eq-eqb}
-use Rattle.logic.proofs.Tests.{true-not-false, and-both}
+use Prim.Native.Nat.{ℕ}
+use lib.Dec.{eqb}
+use borrow.Author.Tests.{eq-eqb}
+use Rattle.logic.proofs.Tests.{true-not-false}
 use Rattle.logic.proofs.Members.{all-imp}
 use Rattle.fields.specs.declared.flow.Flow.{Flow}
-use Rattle.fields.specs.Flows.{among, keeps}
-use Rattle.refusals.specs.declared.Refusal.the-variants.{Count, Field, UsedNumber, Unrelated, Limits}
+use Rattle.fields.specs.Flows.{keeps}
+use Rattle.refusals.specs.declared.Refusal.the-variants.{Field, UsedNumber, Unrelated}
 use Rattle.refusals.specs.declared.Checked.the-variants.{Passed}
 use Rattle.refusals.specs.Tests.{_⟫_}
-use Rattle.refusals.proofs.Chains.{both-passed, unless-passed}
+use Rattle.refusals.proofs.Chains.{both-passed}
 use Rattle.refusals.proofs.Entries.{Pairs, each-passed, pairs-passed}
-use Rattle.lists.specs.Lists.{count, flowsFrom, flowsOf}
-use Rattle.lists.specs.Facts.{related, cycle, frame, grants}
+use Rattle.lists.specs.Lists.{count, flowsOf}
+use Rattle.lists.specs.Facts.{related}
 use Rattle.lists.specs.Tests.{test1, test2, test3, test1exact, test4, newNumber, test5, relatedInterval, test6, test7, tests1to4, tests1to7}
+use Rattle.lists.proofs.Records.{length-flows}
+use Rattle.lists.proofs.Verdicts.{few-passed, limited-passed}
 use Rattle.lists.specs.Accepted.{Distinct, Related, Accepted}
-
-flows-length : (l : List ℕ) (i n : ℕ) → length (flowsFrom l i n) ≡ n
-unfolding flowsFrom
-flows-length l i zero = refl
-flows-length l i (suc n) = ap suc (flows-length l (suc i) n)
 
 -- test 5
 distinct : (fs : List Flow) → Pairs (λ g f. not (eqb (g .number) (f .number)) ≡ true) fs → Distinct fs
@@ -41,7 +37,7 @@ relates (f ∷ fs) p = (p .0, relates fs (p .1))
 
 -- what passes tests 1 to 7 is what every theorem about planning and about tables asks of a list
 pub accepted : (l : List ℕ) → tests1to7 l ≡ Passed → Accepted (flowsOf l)
-unfolding tests1to7 tests1to4 test3 test4 test5 newNumber test6 relatedInterval test7 flowsOf
+unfolding tests1to7 tests1to4 test4 test5 newNumber test6 relatedInterval
 accepted l e =
     let fs = flowsOf l in
     let a = both-passed (tests1to4 l) (test5 fs ⟫ test6 fs ⟫ test7 fs) e in
@@ -51,14 +47,14 @@ accepted l e =
     let i = both-passed (test2 l) (test3 (count l) ⟫ test1exact l ⟫ test4 fs) (h .1) in
     let j = both-passed (test3 (count l)) (test1exact l ⟫ test4 fs) (i .1) in
     let k = both-passed (test1exact l) (test4 fs) (j .1) in
-    let n = and-both (leb 1 (count l)) (leb (count l) 128) (unless-passed (among 1 128 (count l)) Count (j .0)) in
-    let limits = and-both (leb (cycle fs / frame fs) 256) (leb (grants fs) 1024) (unless-passed (leb (cycle fs / frame fs) 256 && leb (grants fs) 1024) Limits (c .1)) in
+    let n = few-passed (count l) (j .0) in
+    let limits = limited-passed fs (c .1) in
     record {
-      filled = rw (flows-length l 0 (count l)) (leb-true 1 (count l) (n .0));
-      few = rw (flows-length l 0 (count l)) (leb-true (count l) 128 (n .1));
+      filled = rw (length-flows l) (n .0);
+      few = rw (length-flows l) (n .1);
       ruled = each-passed keeps (λ f. keeps f ≡ true) (λ f. (λ t. t, λ t. t)) Field 1 fs .0 (k .1);
       distinct = distinct fs (pairs-passed (λ g f. not (eqb (g .number) (f .number))) UsedNumber 1 fs (b .0));
       related = relates fs (pairs-passed (λ g f. related (g .interval) (f .interval)) Unrelated 1 fs (c .0));
-      frames-le = leb-true (cycle fs / frame fs) 256 (limits .0);
-      grants-le = leb-true (grants fs) 1024 (limits .1);
+      frames-le = limits .0;
+      grants-le = limits .1;
     }

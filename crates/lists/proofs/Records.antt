@@ -1,9 +1,10 @@
 -- A record of a list, read and written at its place. Assumes nothing.
-use mathlib.Core.Path.{_≡_, refl, sym, ap, _∙_}
+use mathlib.Core.Path.{_≡_, refl, sym, ap}
 use mathlib.Core.List.{List, _++_}
-use Prim.Native.Nat.{ℕ, zero, suc, _+_, _-_, _/_, _≤_, _<_}
+use Prim.Native.Nat.{ℕ, _-_, _/_, _≤_, _<_}
 use native.Mathlib.Omega.{arith}
 use lib.ListN.{length, getD, take, drop, length-drop}
+use Rattle.logic.proofs.Indices.{length-from, entry-is}
 use Rattle.fields.specs.declared.kind.Kind.the-variants.{ListRecord}
 use Rattle.fields.specs.declared.flow.Flow.{Flow}
 use Rattle.fields.specs.declared.record.Stored.{Stored}
@@ -27,27 +28,14 @@ flow-part l i = ap flowOf (part-to-end (place i) l)
 
 -- ---- the flows of a list
 
-length-from : (l : List ℕ) (i n : ℕ) → length (flowsFrom l i n) ≡ n
-unfolding flowsFrom
-length-from l i zero = refl
-length-from l i (suc n) = ap suc (length-from l (suc i) n)
-
-at-from : (l : List ℕ) (i n j : ℕ) → j < n → getD (flowsFrom l i n) j noFlow ≡ flowAt l (i + j)
-unfolding flowsFrom
-at-from l i zero j h = absurd (omega arith)
-at-from l i (suc n) zero h = let e : i ≡ i + 0 = omega arith in ap (flowAt l) e
-at-from l i (suc n) (suc j) h =
-    let e : suc i + j ≡ i + suc j = omega arith in
-    at-from l (suc i) n j (omega arith) ∙ ap (flowAt l) e
-
 pub length-flows : (l : List ℕ) → length (flowsOf l) ≡ count l
-unfolding flowsOf
-length-flows l = length-from l 0 (count l)
+unfolding flowsFrom flowsOf
+length-flows l = length-from (flowAt l) (flowsFrom l) (λ i. refl) (λ i n. refl) 0 (count l)
 
 -- what the code reads at record i is flow i
 pub flow-is : (l : List ℕ) (i : ℕ) (f : Flow) → i < count l → f ≡ flowAt l i → f ≡ getD (flowsOf l) i noFlow
-unfolding flowsOf
-flow-is l i f h e = e ∙ let z : i ≡ 0 + i = omega arith in ap (flowAt l) z ∙ sym (at-from l 0 (count l) i h)
+unfolding flowsFrom flowsOf
+flow-is l = entry-is (flowAt l) (flowsFrom l) (λ i. refl) (λ i n. refl) noFlow (count l)
 
 -- ---- writing
 

@@ -10,6 +10,8 @@ mod tests;
 pub use facts::Facts;
 pub use facts::facts_of;
 pub use facts::occupies;
+pub use numbers::times;
+pub use numbers::wide;
 pub use packed::count;
 pub use packed::flow_at;
 pub use packed::write_head;

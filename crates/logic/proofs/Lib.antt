@@ -5,3 +5,4 @@ pub mod Progressions
 pub mod Appends
 pub mod Rooms
 pub mod Parts
+pub mod Indices

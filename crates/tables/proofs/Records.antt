@@ -1,9 +1,10 @@
 -- A record of a table, read and written at its place. Assumes nothing.
-use mathlib.Core.Path.{_≡_, sym, ap}
+use mathlib.Core.Path.{_≡_, refl, sym, ap}
 use mathlib.Core.List.{List, _++_}
-use Prim.Native.Nat.{ℕ, _-_, _/_, _≤_}
+use Prim.Native.Nat.{ℕ, _-_, _/_, _≤_, _<_}
 use native.Mathlib.Omega.{arith}
-use lib.ListN.{length, take, drop, replicate, length-drop}
+use lib.ListN.{length, getD, take, drop, replicate, length-drop}
+use Rattle.logic.proofs.Indices.{length-from, entry-is}
 use Rattle.fields.specs.declared.kind.Kind.the-variants.{TableRecord}
 use Rattle.fields.specs.declared.record.Stored.{Stored}
 use Rattle.fields.specs.declared.record.Stored.the-variants.{Short}
@@ -12,7 +13,7 @@ use Rattle.fields.proofs.Records.{values-short}
 use Rattle.logic.proofs.Parts.{part-to-end}
 use Rattle.fields.proofs.Places.{ends-beyond, ends-part}
 use Rattle.tables.specs.declared.packed.Grant.{Grant}
-use Rattle.tables.specs.Tables.{place, valuesAt, fieldsOf, recordStored, recordAfter}
+use Rattle.tables.specs.Tables.{count, place, valuesAt, grantAt, grantsFrom, grantsOf, fieldsOf, recordStored, recordAfter}
 
 -- ---- reading
 
@@ -23,6 +24,17 @@ values-beyond t i k e h = sym (values-short TableRecord (drop (place i) t) (simp
 pub values-part : (t : List ℕ) (i : ℕ) → valuesOf TableRecord (take (length t - place i) (drop (place i) t)) ≡ valuesAt t i
 unfolding valuesAt
 values-part t i = ap (valuesOf TableRecord) (part-to-end (place i) t)
+
+-- ---- the grants of a table
+
+pub length-grants : (t : List ℕ) → length (grantsOf t) ≡ count t
+unfolding grantsFrom grantsOf
+length-grants t = length-from (grantAt t) (grantsFrom t) (λ i. refl) (λ i n. refl) 0 (count t)
+
+-- what the code reads at record i is grant i, whichever grant d stands for those that the table has not
+pub grant-is : (t : List ℕ) (d : Grant) (i : ℕ) (g : Grant) → i < count t → g ≡ grantAt t i → g ≡ getD (grantsOf t) i d
+unfolding grantsFrom grantsOf
+grant-is t d = entry-is (grantAt t) (grantsFrom t) (λ i. refl) (λ i n. refl) d (count t)
 
 -- ---- writing
 
