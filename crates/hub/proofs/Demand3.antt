@@ -1,11 +1,10 @@
 -- DEMAND 3. "Where tests 1 to 7 pass and there is room, and each flow tolerates at least the sum, over every longer interval, of that
 -- interval's largest size less one: planned exactly when the load is at most the cycle, and if refused no table of that cycle
 -- passes." Assumes nothing.
-use mathlib.Core.Path.{_≡_, refl, sym, ap, _∙_}
+use mathlib.Core.Path.{_≡_, sym, ap, _∙_}
 use mathlib.Core.Logic.{_↔_}
 use mathlib.Core.List.{List}
-use Prim.Native.Nat.{ℕ, _≤_, _<_}
-use native.Mathlib.Omega.{arith}
+use Prim.Native.Nat.{ℕ, _≤_}
 use lib.Dec.{leb}
 use lib.ListN.{length}
 use borrow.Author.Tests.{le-leb, leb-true, le-ltb}
@@ -13,7 +12,7 @@ use Rattle.logic.proofs.Tests.{by-lt}
 use Rattle.refusals.specs.declared.Refusal.{Refusal}
 use Rattle.refusals.specs.declared.Refusal.the-variants.{Overload, Room}
 use Rattle.refusals.specs.declared.Checked.the-variants.{Passed, Refused}
-use Rattle.refusals.specs.declared.Written.the-variants.{Bytes, Refused as Stopped}
+use Rattle.refusals.specs.declared.Written.the-variants.{Bytes}
 use Rattle.refusals.specs.Answers.{answer}
 use Rattle.refusals.proofs.Chains.{refused-not, both-passed, passed-both, unless-yes, unless-passed}
 use Rattle.lists.specs.Lists.{flowsOf}

@@ -29,11 +29,7 @@ fn report(made: Written, out: &mut u64) -> u32
 
 // Sheet to list: tests 20, 3, 4 and 9.
 #[no_mangle]
-pub extern "C" fn snowploughy_list_from_sheet(
-    sheet: &[u8],
-    room: &mut [u8],
-    out: &mut u64,
-) -> u32
+pub extern "C" fn snowploughy_list_from_sheet(sheet: &[u8], room: &mut [u8], out: &mut u64) -> u32
     ensures number { λ r. ⌜ r ≡ code (listAnswer (now (sheet .entry)) (length (now (room .entry)))) ⌝ }
     ensures value { λ _. ⌜ now (out .exit) ≡ value (listAnswer (now (sheet .entry)) (length (now (room .entry)))) ⌝ }
     ensures room { λ _. ⌜ now (room .exit) ≡ listRoom (now (sheet .entry)) (now (room .entry)) ⌝ }
@@ -44,11 +40,7 @@ pub extern "C" fn snowploughy_list_from_sheet(
 
 // List to sheet: tests 1 to 4 and 9.
 #[no_mangle]
-pub extern "C" fn snowploughy_sheet_from_list(
-    list: &[u8],
-    room: &mut [u8],
-    out: &mut u64,
-) -> u32
+pub extern "C" fn snowploughy_sheet_from_list(list: &[u8], room: &mut [u8], out: &mut u64) -> u32
     ensures number { λ r. ⌜ r ≡ code (sheetAnswer (now (list .entry)) (length (now (room .entry)))) ⌝ }
     ensures value { λ _. ⌜ now (out .exit) ≡ value (sheetAnswer (now (list .entry)) (length (now (room .entry)))) ⌝ }
     ensures room { λ _. ⌜ now (room .exit) ≡ sheetRoom (now (list .entry)) (now (room .entry)) ⌝ }

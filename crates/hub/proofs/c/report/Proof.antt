@@ -5,10 +5,6 @@ use borrow.Author.Needs.{needs}
 use Rattle.hub.specs.Codes.{code, value}
 use Rattle.hub.proofs.c.report.Statement.{statement}
 use Rattle.hub.proofs.c.report.Tie as tie
-use Rattle.hub.proofs.c.report.Reads as reads
-use Rattle.hub.proofs.c.report.Lts as lts
-use Rattle.refusals.proofs.Refusal.number.Reads as number-reads
-use Rattle.refusals.proofs.Refusal.place.Reads as place-reads
 
 enum-known-made : tie.Need-enum-known-made
 enum-known-made c = search needs

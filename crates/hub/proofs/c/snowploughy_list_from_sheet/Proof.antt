@@ -5,10 +5,6 @@ use borrow.Author.Needs.{needs}
 use Rattle.hub.specs.Codes.{code, value}
 use Rattle.hub.proofs.c.snowploughy_list_from_sheet.Statement.{statement}
 use Rattle.hub.proofs.c.snowploughy_list_from_sheet.Tie as tie
-use Rattle.hub.proofs.c.snowploughy_list_from_sheet.Reads as reads
-use Rattle.hub.proofs.c.snowploughy_list_from_sheet.Lts as lts
-use Rattle.hub.proofs.c.report.Reads as report-reads
-use Rattle.sheets.proofs.list_from_sheet.Reads as list-from-sheet-reads
 
 list-from-sheet-requires : tie.Need-list-from-sheet-requires
 list-from-sheet-requires c κs = search needs

@@ -5,9 +5,6 @@ use borrow.Author.Needs.{needs}
 use Rattle.hub.specs.Codes.{code, value}
 use Rattle.hub.proofs.c.snowploughy_plan.Statement.{statement}
 use Rattle.hub.proofs.c.snowploughy_plan.Tie as tie
-use Rattle.hub.proofs.c.snowploughy_plan.Reads as reads
-use Rattle.hub.proofs.c.snowploughy_plan.Lts as lts
-use Rattle.hub.proofs.c.report.Reads as report-reads
 
 plan-requires : tie.Need-plan-requires
 plan-requires c κs = search needs

@@ -5,10 +5,6 @@ use borrow.Author.Needs.{needs}
 use Rattle.hub.specs.Codes.{code, value}
 use Rattle.hub.proofs.c.snowploughy_sheet_from_list.Statement.{statement}
 use Rattle.hub.proofs.c.snowploughy_sheet_from_list.Tie as tie
-use Rattle.hub.proofs.c.snowploughy_sheet_from_list.Reads as reads
-use Rattle.hub.proofs.c.snowploughy_sheet_from_list.Lts as lts
-use Rattle.hub.proofs.c.report.Reads as report-reads
-use Rattle.sheets.proofs.sheet_from_list.Reads as sheet-from-list-reads
 
 sheet-from-list-requires : tie.Need-sheet-from-list-requires
 sheet-from-list-requires c κs = search needs

@@ -1,18 +1,11 @@
 -- `hub::c::snowploughy_window` meets its contract.
 -- Assumes nothing.
-use mathlib.Core.Path.{_≡_, sym, ap, _∙_}
-use Prim.Native.Nat.{_≤_}
+use mathlib.Core.Path.{sym, ap, _∙_}
 use borrow.Author.Needs.{needs}
-use Rattle.tables.specs.declared.stretch.Edges.{Edges}
-use Rattle.tables.specs.Window.{edgesOf}
 use Rattle.tables.proofs.Windows.{edges-ordered}
 use Rattle.hub.specs.Codes.{windowCode, windowFirst, windowBytes}
 use Rattle.hub.proofs.c.snowploughy_window.Statement.{statement}
 use Rattle.hub.proofs.c.snowploughy_window.Tie as tie
-use Rattle.hub.proofs.c.snowploughy_window.Reads as reads
-use Rattle.hub.proofs.c.snowploughy_window.Lts as lts
-use Rattle.refusals.proofs.Refusal.number.Reads as number-reads
-use Rattle.tables.proofs.edges_of.Reads as edges-of-reads
 
 edges-of-requires : tie.Need-edges-of-requires
 edges-of-requires c κs = search needs
