@@ -1,0 +1,103 @@
+// Answers the outside cases on standard input, a line for each: sheet to list (1), list to sheet (2), plan (3), check (4) and
+// window (5).
+mod answers;
+mod print;
+mod stream;
+
+use libc::STDIN_FILENO;
+use stream::Got;
+
+// Reads a byte string and the length of a room, and answers an operation that writes. False where the stream stops inside the
+// case, or asks for more than there is.
+fn written(op: u8, input: &mut [u8], room: &mut [u8]) -> bool {
+    let length = stream::string(input);
+    let Got::Number(n) = length else {
+        return false;
+    };
+    let size = stream::number();
+    let Got::Number(k) = size else {
+        return false;
+    };
+    if input.len() < n {
+        return false;
+    }
+    if room.len() < k {
+        return false;
+    }
+    answers::write(op, &input[0..n], &mut room[0..k]);
+    true
+}
+
+// Reads a list and a table, and answers the check.
+fn checked(list: &mut [u8], table: &mut [u8]) -> bool {
+    let length = stream::string(list);
+    let Got::Number(n) = length else {
+        return false;
+    };
+    let size = stream::string(table);
+    let Got::Number(k) = size else {
+        return false;
+    };
+    if list.len() < n {
+        return false;
+    }
+    if table.len() < k {
+        return false;
+    }
+    answers::check(&list[0..n], &table[0..k]);
+    true
+}
+
+// Reads a table and the ends of a window, and answers it.
+fn windowed(table: &mut [u8]) -> bool {
+    let length = stream::string(table);
+    let Got::Number(n) = length else {
+        return false;
+    };
+    let from = stream::number();
+    let Got::Number(a) = from else {
+        return false;
+    };
+    let to = stream::number();
+    let Got::Number(b) = to else {
+        return false;
+    };
+    if table.len() < n {
+        return false;
+    }
+    answers::window(&table[0..n], a as u64, b as u64);
+    true
+}
+
+// Answers a case, and whether to go on.
+fn case() -> bool {
+    let mut op = [0u8; 1];
+    let n = io::read_full(STDIN_FILENO, &mut op);
+    if n == 0 {
+        return false;
+    }
+    let kind = op[0];
+    let mut input = [0u8; 65536];
+    let mut room = [0xA5u8; 32768];
+    let whole = if kind == 4 {
+        checked(&mut input, &mut room)
+    } else {
+        if kind == 5 {
+            windowed(&mut input)
+        } else {
+            written(kind, &mut input, &mut room)
+        }
+    };
+    if !whole {
+        print::word(b"broken case\n");
+    }
+    whole
+}
+
+// Each turn answers a case. A proved loop has to end, so the turns count down from a number that no stream uses up.
+fn main() {
+    let mut turns = u64::MAX;
+    while turns > 0 && case() {
+        turns -= 1;
+    }
+}
