@@ -49,7 +49,7 @@ module _ {φ i w : ℕ} {fs : List Flow} {is : List ℕ} {hs : List (List Settle
       (opened-is φ i (O .times) fs is hs (take w cs) (take w ls) ks bs (O .agrees))
 
   -- a group that is refused
-  pub closed-refused : (p : ℕ) (ds ms ns es : List ℕ) → placed .placed ≡ NoFrame p → Closed φ i fs is (group φ i 1 window fs) (NoFrame p) ds ms ns es
+  closed-refused : (p : ℕ) (ds ms ns es : List ℕ) → placed .placed ≡ NoFrame p → Closed φ i fs is (group φ i 1 window fs) (NoFrame p) ds ms ns es
   closed-refused p ds ms ns es e = go (group φ i 1 window fs) placed-as
     where
       go : (r : Outcome (List Frame)) → Placed-as φ i fs window (rep (O .times) (take w ls)) ks r placed → Closed φ i fs is r (NoFrame p) ds ms ns es
@@ -61,7 +61,7 @@ module _ {φ i w : ℕ} {fs : List Flow} {is : List ℕ} {hs : List (List Settle
   length-filled M o = sym (length-olds M) ∙ ap length o ∙ length-olds window ∙ length-window
 
   module _ (all : placed .placed ≡ Lawful) where
-    pub closed-all : Closed φ i fs is (group φ i 1 window fs) Lawful (placed .contents) (ended .limits) (placed .frames) (ended .bases)
+    closed-all : Closed φ i fs is (group φ i 1 window fs) Lawful (placed .contents) (ended .limits) (placed .frames) (ended .bases)
     closed-all = go (group φ i 1 window fs) placed-as
       where
         go : (r : Outcome (List Frame)) → Placed-as φ i fs window (rep (O .times) (take w ls)) ks r placed
@@ -78,7 +78,7 @@ module _ {φ i w : ℕ} {fs : List Flow} {is : List ℕ} {hs : List (List Settle
             )
 
     -- its overhangs fit a cell
-    pub low-over : (k : ℕ) → k < length (placed .contents) → over φ 0 (take k (placed .contents)) < 65536
+    low-over : (k : ℕ) → k < length (placed .contents) → over φ 0 (take k (placed .contents)) < 65536
     low-over k h = go (group φ i 1 window fs) placed-as
       where
         go : (r : Outcome (List Frame)) → Placed-as φ i fs window (rep (O .times) (take w ls)) ks r placed → over φ 0 (take k (placed .contents)) < 65536

@@ -14,13 +14,13 @@ module _ {A : Type 0} (xs : List A) where
   length-rep zero = omega arith
   length-rep (suc r) = length-append xs (rep r xs) ∙ omega (arith, length-rep r)
 
-  pub rep-snoc : (r : ℕ) → rep (suc r) xs ≡ rep r xs ++ xs
+  rep-snoc : (r : ℕ) → rep (suc r) xs ≡ rep r xs ++ xs
   unfolding rep
   rep-snoc zero = append-nil xs
   rep-snoc (suc r) = ap (λ (l : List A). xs ++ l) (rep-snoc r) ∙ sym (append-assoc xs (rep r xs) xs)
 
   -- each copy is the one before
-  pub rep-again : (r j : ℕ) (d : A) → length xs + j < r * length xs → getD (rep r xs) (length xs + j) d ≡ getD (rep r xs) j d
+  rep-again : (r j : ℕ) (d : A) → length xs + j < r * length xs → getD (rep r xs) (length xs + j) d ≡ getD (rep r xs) j d
   unfolding rep
   rep-again zero j d h = absurd (omega arith)
   rep-again (suc r) j d h =

@@ -19,7 +19,7 @@ total [] = 0
 total (c ∷ cs) = c + total cs
 
 -- an overhang is within every jitter of a frame if it is not over the frame's limit
-pub within-limit : (o : ℕ) (h : List Settled) → o ≤ free → within o h ≡ leb o (limit h)
+within-limit : (o : ℕ) (h : List Settled) → o ≤ free → within o h ≡ leb o (limit h)
 unfolding within limit
 within-limit o [] k = sym (le-leb o free k)
 within-limit o (g ∷ h) k =
@@ -60,7 +60,7 @@ lawful-over φ o (suc k) (c ∷ cs) [] e h = true-not-false (sym e ∙ (nothing 
 lawful-over φ o (suc k) (c ∷ cs) (h ∷ hs) e l = omega (arith, lawful-over φ (past φ o c) k cs hs (lawful-tail φ o c cs h hs e .1) (omega arith))
 
 -- in a window that is lawful a push runs out if and only if the window stays lawful
-pub lawful-runs : (φ o p : ℕ) (cs : List ℕ) (hs : List (List Settled)) → o ≤ p → p + total cs ≤ free → lawful φ o cs hs ≡ true
+lawful-runs : (φ o p : ℕ) (cs : List ℕ) (hs : List (List Settled)) → o ≤ p → p + total cs ≤ free → lawful φ o cs hs ≡ true
     → lawful φ p cs hs ≡ runs φ p cs (limits hs)
 unfolding lawful runs limits total
 lawful-runs φ o p [] hs l k e = refl
@@ -95,7 +95,7 @@ firstLawful-first φ s k o (c ∷ cs) (h ∷ hs) r e =
     (λ b. rw (same ∙ b, firstLawful) (rest ∙ sym (rw (b, first))))
 
 -- a push that runs out fits the frames
-pub runs-le : (φ p : ℕ) (cs ls : List ℕ) → runs φ p cs ls ≡ true → p ≤ length cs * φ
+runs-le : (φ p : ℕ) (cs ls : List ℕ) → runs φ p cs ls ≡ true → p ≤ length cs * φ
 unfolding runs
 runs-le φ p [] ls e = omega (arith, eqb-true p 0 e)
 runs-le φ p (c ∷ cs) [] e = omega (arith, eqb-true p 0 e)

@@ -15,7 +15,7 @@ use Rattle.placing.specs.Rule.{past}
 use Rattle.layout.specs.Cells.{over}
 use Rattle.layout.specs.Cells.{runs, opens, first, stops}
 
-pub over-append : (φ o : ℕ) (xs ys : List ℕ) → over φ o (xs ++ ys) ≡ over φ (over φ o xs) ys
+over-append : (φ o : ℕ) (xs ys : List ℕ) → over φ o (xs ++ ys) ≡ over φ (over φ o xs) ys
 unfolding over
 over-append φ o [] ys = refl
 over-append φ o (x ∷ xs) ys = over-append φ (past φ o x) xs ys

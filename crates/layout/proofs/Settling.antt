@@ -37,7 +37,7 @@ unfolding weight sum
 weight-stamped o [] = refl
 weight-stamped o (f ∷ fs) = omega (arith, weight-stamped o fs)
 
-pub loads-settle : (φ o : ℕ) (L : List Frame) → loads (settle φ o L) ≡ contents L
+loads-settle : (φ o : ℕ) (L : List Frame) → loads (settle φ o L) ≡ contents L
 unfolding loads settle contents content
 loads-settle φ o [] = refl
 loads-settle φ o (x ∷ L) =

@@ -10,7 +10,6 @@ mod search;
 pub use arrays::Layout;
 pub use flows::place;
 pub use flows::settle;
-pub use frames::overhang;
 pub use frames::past;
 pub use frames::repeat;
 pub use frames::wide;

@@ -135,7 +135,7 @@ module _ {φ i t w : ℕ} {fs : List Flow} {is : List ℕ} {hs : List (List Sett
   layout-on r e = sym (R .rest) ∙ rw to-come (rw (e, groups))
 
   -- a refusal is the list's
-  pub reached-refused : (p : ℕ) (ds ms ns es : List ℕ) → Closed φ i fs is (group φ i 1 (opened (rep (i / t) hs)) fs) (NoFrame p) ds ms ns es → layout fs ≡ refused p
+  reached-refused : (p : ℕ) (ds ms ns es : List ℕ) → Closed φ i fs is (group φ i 1 (opened (rep (i / t) hs)) fs) (NoFrame p) ds ms ns es → layout fs ≡ refused p
   reached-refused p ds ms ns es = go (group φ i 1 (opened (rep (i / t) hs)) fs) refl
     where
       go : (r : Outcome (List Frame)) → group φ i 1 (opened (rep (i / t) hs)) fs ≡ r → Closed φ i fs is r (NoFrame p) ds ms ns es → layout fs ≡ refused p
@@ -147,7 +147,7 @@ module _ {φ i t w : ℕ} {fs : List Flow} {is : List ℕ} {hs : List (List Sett
   before-on j v [] l d e b = (l, e, tt)
   before-on j v (x ∷ ns) l d e b = (omega arith, dvd-trans (x / φ) (b .1) d, before-on j v ns l d e (b .2))
 
-  pub reached-next : φ ≡ frame fs → (ds ms ns es : List ℕ) → Closed φ i fs is (group φ i 1 (opened (rep (i / t) hs)) fs) Lawful (take (i / φ) ds) (take (i / φ) ms) ns es
+  reached-next : φ ≡ frame fs → (ds ms ns es : List ℕ) → Closed φ i fs is (group φ i 1 (opened (rep (i / t) hs)) fs) Lawful (take (i / φ) ds) (take (i / φ) ms) ns es
       → (gs : List (List Settled)) × Reached φ (nextInterval i 0 fs) i (i / φ) fs (is ++ (i ∷ [])) gs ds ms ns es
   reached-next f ds ms ns es = go (group φ i 1 (opened (rep (i / t) hs)) fs) refl
     where
