@@ -23,7 +23,7 @@ use Rattle.placing.specs.Rule.{weight, content, within, lawful, takes, firstLaw
 use Rattle.planner.specs.Plan.{test8, test9, test10, planTests, grantsPlanned, planTable}
 
 -- number, size, interval, jitter
-abbrev flow : ℕ → ℕ → ℕ → ℕ → Flow
+abbrev pub flow : ℕ → ℕ → ℕ → ℕ → Flow
 flow n s i j = record { number = n; size = s; interval = i; jitter = j }
 
 -- flow, start, late
@@ -43,8 +43,12 @@ Claimed (refuses fs r) = planTests (listOf fs) 5128 ≡ Refused r
 Claimed (checks fs gs answer) = check (listOf fs) (tableOf (cycle fs) (frame fs) gs) ≡ answer
 
 -- case A's flows, with the first one's jitter
-abbrev listA : ℕ → List Flow
+abbrev pub listA : ℕ → List Flow
 listA j = flow 1 1 4 j ∷ flow 2 2 8 0 ∷ flow 3 3 8 0 ∷ []
+
+-- case E's flows
+abbrev pub listE : List Flow
+listE = flow 1 1 4 3 ∷ flow 2 2 8 2 ∷ flow 3 3 16 0 ∷ []
 
 -- case A's grants, with the last one or another or none
 abbrev grantsA : List Grant → List Grant
@@ -64,8 +68,7 @@ cases =
     ∷ refuses (flow 1 1 4 2 ∷ flow 2 6 8 0 ∷ []) (NoFrame 2)
     ∷ refuses (flow 1 1 4 3 ∷ flow 2 7 8 0 ∷ []) Overload
     -- E
-    ∷ plans (flow 1 1 4 3 ∷ flow 2 2 8 2 ∷ flow 3 3 16 0 ∷ [])
-    (grant 1 0 0 ∷ grant 2 1 0 ∷ grant 3 3 0 ∷ grant 1 6 2 ∷ grant 1 8 0 ∷ grant 2 9 0 ∷ grant 1 12 0 ∷ [])
+    ∷ plans listE (grant 1 0 0 ∷ grant 2 1 0 ∷ grant 3 3 0 ∷ grant 1 6 2 ∷ grant 1 8 0 ∷ grant 2 9 0 ∷ grant 1 12 0 ∷ [])
     -- G
     ∷ checks (listA 2) (grantsA (grant 1 6 1 ∷ [])) (Refused (Timing 4))
     ∷ checks (listA 2) (grantsA (grant 1 5 1 ∷ [])) (Refused (Overlap 4))

@@ -1,47 +1,27 @@
 -- DEMAND 3. "Where tests 1 to 7 pass and there is room, and each flow tolerates at least the sum, over every longer interval, of that
 -- interval's largest size less one: planned exactly when the load is at most the cycle, and if refused no table of that cycle
 -- passes." Assumes nothing.
-use mathlib.Core.Path.{_≡_, sym, ap, _∙_}
+use mathlib.Core.Path.{_≡_, sym, _∙_}
 use mathlib.Core.Logic.{_↔_}
 use mathlib.Core.List.{List}
 use Prim.Native.Nat.{ℕ, _≤_}
 use lib.Dec.{leb}
-use lib.ListN.{length}
-use borrow.Author.Tests.{le-leb, leb-true, le-ltb}
+use borrow.Author.Tests.{le-leb, leb-true}
 use Rattle.logic.proofs.Tests.{by-lt}
 use Rattle.refusals.specs.declared.Refusal.{Refusal}
 use Rattle.refusals.specs.declared.Refusal.the-variants.{Overload, Room}
 use Rattle.refusals.specs.declared.Checked.the-variants.{Passed, Refused}
-use Rattle.refusals.specs.declared.Written.the-variants.{Bytes}
-use Rattle.refusals.specs.Answers.{answer}
 use Rattle.refusals.proofs.Chains.{refused-not, both-passed, passed-both, unless-yes, unless-passed}
 use Rattle.lists.specs.Lists.{flowsOf}
-use Rattle.lists.specs.Facts.{cycle, frame, grants, load}
+use Rattle.lists.specs.Facts.{cycle, grants, load}
 use Rattle.lists.specs.Tests.{tests1to7}
 use Rattle.lists.proofs.Accepted.{accepted}
-use Rattle.tables.specs.Tables.{place, tableOf}
-use Rattle.tables.proofs.Meaning.{length-table}
+use Rattle.tables.specs.Tables.{place}
 use Rattle.law.specs.Check.{check}
 use Rattle.law.proofs.Oversold.{oversold}
 use Rattle.placing.specs.Tolerance.{Tolerant}
-use Rattle.placing.proofs.Passes.{planned-length}
 use Rattle.placing.proofs.Always.{always-planned}
-use Rattle.planner.specs.Plan.{test8, test9, test10, planTests, grantsPlanned, planTable, planAnswer}
-use Rattle.planner.proofs.Passes.{placed}
-
--- a plan's answer is the length of its table
-pub plan-answers : (l : List ℕ) (n : ℕ) → planTests l n ≡ Passed → planAnswer l n ≡ Bytes (place (grants (flowsOf l)))
-unfolding planAnswer answer planTests planTable test9
-plan-answers l n e =
-    let fs = flowsOf l in
-    let gs = grantsPlanned fs in
-    let a = both-passed (tests1to7 l) _ e in
-    let b = both-passed (test8 fs) _ (a .1) in
-    let c = both-passed (test9 fs n) _ (b .1) in
-    let long : length (tableOf (cycle fs) (frame fs) gs) ≡ place (grants fs) =
-    length-table (cycle fs) (frame fs) gs ∙ ap place (planned-length fs (accepted l (a .0)) gs (placed fs (c .1))) in
-    let fits : place (grants fs) ≤ n = leb-true _ _ (unless-passed (leb (place (grants fs)) n) Room (c .0)) in
-    rw (e, long, le-ltb n (place (grants fs)) fits)
+use Rattle.planner.specs.Plan.{test8, test9, test10, planTests}
 
 module _ (l : List ℕ) (n : ℕ) (pass : tests1to7 l ≡ Passed) (room : place (grants (flowsOf l)) ≤ n) (tolerant : Tolerant (flowsOf l)) where
   small-planned : load (flowsOf l) ≤ cycle (flowsOf l) → planTests l n ≡ Passed

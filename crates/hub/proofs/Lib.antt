@@ -1,3 +1,5 @@
+pub mod Demand1
+pub mod Demand2
 pub mod Demand3
-pub mod Exactly
+pub mod Premise
 pub mod Cases

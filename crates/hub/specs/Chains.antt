@@ -6,7 +6,10 @@ use lib.ListN.{length}
 use Rattle.refusals.specs.declared.Refusal.the-variants.{Room}
 use Rattle.refusals.specs.declared.Checked.{Checked}
 use Rattle.refusals.specs.Tests.{unless}
-use Rattle.lists.specs.Lists.{count, flowsOf}
+use Rattle.lists.specs.Lists.{count, flowsOf, listOf}
+use Rattle.sheets.specs.Texts.{text}
+use Rattle.sheets.specs.Readings.{flowsIn}
+use Rattle.sheets.specs.Tests.{test20}
 use Rattle.lists.specs.Tests.{test1, test2, test3, test1exact, test4, test5, test6, test7}
 use Rattle.tables.specs.Tables.{grantsOf}
 use Rattle.tables.specs.Form.{test11, test12}
@@ -47,3 +50,11 @@ windowChain t a b = formChain t ++ (test19 t a b ∷ [])
 -- 9: room to write is too short for these bytes
 unfoldable pub roomTest : List ℕ → ℕ → Checked
 roomTest bs n = unless (leb (length bs) n) Room
+
+-- "Sheet to list tests 20, 3, 4, 9": a sheet, for a room of n bytes
+abbrev pub sheetChain : List ℕ → ℕ → List Checked
+sheetChain s n = test20 s ∷ test3 (length (flowsIn s)) ∷ test4 (flowsIn s) ∷ roomTest (listOf (flowsIn s)) n ∷ []
+
+-- "list to sheet tests 1 to 4, 9": a list, for a room of n bytes
+abbrev pub listChain : List ℕ → ℕ → List Checked
+listChain l n = chain1to4 l ++ (roomTest (text (flowsOf l)) n ∷ [])

@@ -1,2 +1,3 @@
 pub mod Chains
+pub mod Statements
 pub mod Codes

@@ -1,17 +1,21 @@
 -- What planning writes passes the check, for every list and room. Assumes nothing.
-use mathlib.Core.Path.{_≡_, refl}
+use mathlib.Core.Path.{_≡_, refl, ap, _∙_}
 use mathlib.Core.Bool.{true}
 use mathlib.Core.List.{List, [], _∷_, List·Memᴰ·head}
 use Prim.Native.Nat.{ℕ, _*_, _/_, _≤_, _<_}
 use native.Mathlib.Omega.{arith}
-use borrow.Author.Tests.{eq-eqb}
+use lib.Dec.{leb}
+use lib.ListN.{length}
+use borrow.Author.Tests.{eq-eqb, leb-true, le-ltb}
 use Rattle.logic.specs.Lists.{sum}
 use Rattle.logic.proofs.Tests.{by-lt, both-and}
 use Rattle.logic.proofs.Members.{all-imp}
 use Rattle.fields.specs.declared.flow.Flow.{Flow}
-use Rattle.refusals.specs.declared.Refusal.the-variants.{TableForm, OtherCycle, NoFrame}
+use Rattle.refusals.specs.declared.Refusal.the-variants.{TableForm, OtherCycle, NoFrame, Room}
 use Rattle.refusals.specs.declared.Checked.the-variants.{Passed, Refused}
-use Rattle.refusals.proofs.Chains.{refused-not, both-passed, passed-both, unless-yes}
+use Rattle.refusals.specs.declared.Written.the-variants.{Bytes}
+use Rattle.refusals.specs.Answers.{answer}
+use Rattle.refusals.proofs.Chains.{refused-not, both-passed, passed-both, unless-yes, unless-passed}
 use Rattle.lists.specs.Lists.{flowsOf}
 use Rattle.lists.specs.Facts.{cycle, frame, grantsOf as grantsEach, grants}
 use Rattle.lists.specs.Tests.{tests1to7}
@@ -20,14 +24,14 @@ use Rattle.lists.proofs.Accepted.{accepted}
 use Rattle.lists.proofs.Cycle.{interval-pos, cycle-le, divides-cycle}
 use Rattle.lists.proofs.Turns.{least-le}
 use Rattle.tables.specs.declared.packed.Grant.{Grant}
-use Rattle.tables.specs.Tables.{grantsOf, tableOf}
+use Rattle.tables.specs.Tables.{place, grantsOf, tableOf}
 use Rattle.tables.specs.Form.{test11, formTests}
-use Rattle.tables.proofs.Meaning.{Fits, Holds, cycle-table, frame-table, grants-table, formed-table}
+use Rattle.tables.proofs.Meaning.{Fits, Holds, length-table, cycle-table, frame-table, grants-table, formed-table}
 use Rattle.law.specs.Check.{known, test13, check}
 use Rattle.law.proofs.Demand.{check-parts}
 use Rattle.placing.specs.Rule.{Outcome, done, refused, planned}
 use Rattle.placing.proofs.Passes.{planned-passes, planned-length, planned-fits, cycle-fits}
-use Rattle.planner.specs.Plan.{test8, test9, test10, planTests, grantsPlanned, planTable}
+use Rattle.planner.specs.Plan.{test8, test9, test10, planTests, grantsPlanned, planTable, planAnswer}
 
 -- where test 10 passes the list is planned
 pub placed : (fs : List Flow) → test10 fs ≡ Passed → planned fs ≡ done (grantsPlanned fs)
@@ -91,3 +95,17 @@ plan-passes l n e =
           (both-and _ _ (eq-eqb _ (cycle fs) (cycle-table (cycle fs) (frame fs) gs h)) (eq-eqb _ (frame fs) (frame-table (cycle fs) (frame fs) gs h)));
       rules = rw back (pass .1);
     })
+
+-- a plan's answer is the length of its table
+pub plan-answers : (l : List ℕ) (n : ℕ) → planTests l n ≡ Passed → planAnswer l n ≡ Bytes (place (grants (flowsOf l)))
+unfolding planAnswer answer planTests planTable test9
+plan-answers l n e =
+    let fs = flowsOf l in
+    let gs = grantsPlanned fs in
+    let a = both-passed (tests1to7 l) _ e in
+    let b = both-passed (test8 fs) _ (a .1) in
+    let c = both-passed (test9 fs n) _ (b .1) in
+    let long : length (tableOf (cycle fs) (frame fs) gs) ≡ place (grants fs) =
+    length-table (cycle fs) (frame fs) gs ∙ ap place (planned-length fs (accepted l (a .0)) gs (placed fs (c .1))) in
+    let fits : place (grants fs) ≤ n = leb-true _ _ (unless-passed (leb (place (grants fs)) n) Room (c .0)) in
+    rw (e, long, le-ltb n (place (grants fs)) fits)

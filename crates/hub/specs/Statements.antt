@@ -1,0 +1,38 @@
+-- What each public operation states, for all inputs: the result, and every byte of its room. The contracts in `src/` say the same
+-- of the code. Assumes nothing.
+use mathlib.Core.Path.{_≡_}
+use mathlib.Core.List.{List}
+use Prim.Native.Nat.{ℕ}
+use lib.ListN.{length}
+use denote.Ref.{RefT}
+use Rattle.refusals.specs.declared.Checked.{Checked}
+use Rattle.refusals.specs.declared.Written.{Written}
+use Rattle.sheets.specs.Answers.{listAnswer, listRoom, sheetAnswer, sheetRoom}
+use Rattle.tables.specs.Window.{windowTests, edge, Stretch}
+use Rattle.law.specs.Check.{check}
+use Rattle.planner.specs.Plan.{planAnswer, planRoom}
+
+-- an operation that writes: r is its answer and room′ the room afterwards
+pub record Writes (answer : ℕ → Written) (after : List ℕ → List ℕ) (room : List ℕ) (r : Written) (room′ : List ℕ) : Type 0 where
+  pub result : r ≡ answer (length room)
+  pub bytes : room′ ≡ after room
+
+-- sheet to list
+abbrev pub ListFromSheet : List ℕ → List ℕ → Written → List ℕ → Type 0
+ListFromSheet s room r room′ = Writes (listAnswer s) (listRoom s) room r room′
+
+-- list to sheet
+abbrev pub SheetFromList : List ℕ → List ℕ → Written → List ℕ → Type 0
+SheetFromList l room r room′ = Writes (sheetAnswer l) (sheetRoom l) room r room′
+
+-- plan
+abbrev pub Plan : List ℕ → List ℕ → Written → List ℕ → Type 0
+Plan l room r room′ = Writes (planAnswer l) (planRoom l) room r room′
+
+-- check: it writes nothing
+abbrev pub Check : List ℕ → List ℕ → Checked → Type 0
+Check l t r = r ≡ check l t
+
+-- window: r is the stretch of the caller's own table t; it writes nothing
+abbrev pub Window : RefT (List ℕ) → ℕ → ℕ → RefT (List ℕ) → Type 0
+Window t a b r = Stretch t r (edge (windowTests (t .now) a b) (t .now) a) (edge (windowTests (t .now) a b) (t .now) b)
