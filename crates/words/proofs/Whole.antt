@@ -3,6 +3,7 @@
 use mathlib.Core.Path.{_≡_, refl, sym, ap, _∙_}
 use mathlib.Core.List.{List, [], _∷_, _++_}
 use Prim.Native.Nat.{ℕ, zero, suc, _+_, _-_, _*_, _/_, _%_, _≤_, _<_}
+use native.Mathlib.Numerals.{add-one}
 use native.Mathlib.Omega.{arith}
 use lib.ListN.{length, getD, length-append}
 use borrow.Author.Tests.{lt-ltb, le-ltb}
@@ -27,18 +28,18 @@ unfolding figuresTo
 to-same zero m v h k = sym (to-one m v (omega arith))
 to-same (suc n) zero v h k = to-one (suc n) v (omega arith)
 to-same (suc n) (suc m) v h k =
-    by-lt v 10 (λ l. rw (lt-ltb v 10 l)) (λ l. rw (le-ltb v 10 l) (ap suc (to-same n m (v / 10) (omega arith) (omega arith))))
+    by-lt v 10 (λ l. rw (lt-ltb v 10 l)) (λ l. rw (le-ltb v 10 l) (ap (λ (k : ℕ). k + 1) (to-same n m (v / 10) (omega arith) (omega arith))))
 
 pub figures-one : (v : ℕ) → v < 10 → figures v ≡ 1
 unfolding figures
 figures-one v h = to-one v v h
 
-more-to : (n v : ℕ) → n ≡ v → 10 ≤ v → figuresTo n v ≡ suc (figuresTo (v / 10) (v / 10))
+more-to : (n v : ℕ) → n ≡ v → 10 ≤ v → figuresTo n v ≡ figuresTo (v / 10) (v / 10) + 1
 unfolding figuresTo
 more-to zero v e h = absurd (omega arith)
-more-to (suc n) v e h = rw (le-ltb v 10 h) (ap suc (to-same n (v / 10) (v / 10) (omega arith) (omega arith)))
+more-to (suc n) v e h = rw (le-ltb v 10 h) (ap (λ (k : ℕ). k + 1) (to-same n (v / 10) (v / 10) (omega arith) (omega arith)))
 
-pub figures-more : (v : ℕ) → 10 ≤ v → figures v ≡ suc (figures (v / 10))
+pub figures-more : (v : ℕ) → 10 ≤ v → figures v ≡ figures (v / 10) + 1
 unfolding figures
 figures-more v h = more-to v v refl h
 
@@ -92,7 +93,7 @@ numeral-one v h = rw (figures-one v h)
 
 numeral-more : (v : ℕ) → 10 ≤ v → numeral v ≡ numeral (v / 10) ++ ((48 + v % 10) ∷ [])
 unfolding numeral digits
-numeral-more v h = rw (figures-more v h)
+numeral-more v h = rw (figures-more v h, add-one)
 
 value-last : (n : ℕ) (ds : List ℕ) (b : ℕ) → value n (ds ++ (b ∷ [])) ≡ value n ds * 10 + (b - 48)
 unfolding value

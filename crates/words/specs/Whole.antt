@@ -1,5 +1,5 @@
 -- A number of any size in decimal. Assumes nothing.
-use Prim.Native.Nat.{ℕ, zero, suc, _/_}
+use Prim.Native.Nat.{ℕ, zero, suc, _+_, _/_}
 use mathlib.Core.Bool.{cond}
 use mathlib.Core.List.{List}
 use lib.Dec.{ltb}
@@ -8,7 +8,7 @@ use Rattle.words.specs.Decimals.{digits}
 -- how many digits a number has that is at most n
 unfoldable pub figuresTo : ℕ → ℕ → ℕ
 figuresTo zero v = 1
-figuresTo (suc n) v = cond (ltb v 10) 1 (suc (figuresTo n (v / 10)))
+figuresTo (suc n) v = cond (ltb v 10) 1 (figuresTo n (v / 10) + 1)
 
 -- how many digits a number has
 unfoldable pub figures : ℕ → ℕ
