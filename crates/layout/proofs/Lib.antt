@@ -1,0 +1,7 @@
+pub mod Limits
+pub mod Runs
+pub mod Copies
+pub mod Groups
+pub mod Settling
+pub mod Layouts
+pub mod Closing

@@ -1,0 +1,9 @@
+pub mod Rising
+pub mod Bounds
+pub mod Reaching
+pub mod Turns
+pub mod Writing
+pub mod Tabling
+pub mod Printing
+pub mod Answering
+pub mod Verdicts

@@ -1,0 +1,170 @@
+-- `planner::planning::place_and_write` meets its contract. Assumes nothing.
+use mathlib.Core.Path.{_≡_, ap, _∙_}
+use Prim.Native.Nat.{ℕ, _-_, _/_, _≤_}
+use native.Mathlib.Nat.{sub-zero}
+use native.Mathlib.Omega.{arith}
+use lib.ListN.{length}
+use Rattle.lists.proofs.Records.{length-flows}
+use Rattle.lists.specs.Lists.{flowsOf}
+use Rattle.lists.specs.Facts.{cycle, frame, grants, load}
+use Rattle.lists.proofs.Cycle.{frame-pos}
+use Rattle.planner.proofs.Answering.{facts-are, Standing, answer-refused, answer-standing, answer-written}
+use borrow.Author.Needs.{needs}
+use Rattle.planner.proofs.planning.place_and_write.Statement.{statement}
+use Rattle.planner.proofs.planning.place_and_write.Tie as tie
+
+abbrev start : tie.After-place-all → tie.Start
+start c = c .before .before .before .before .before .before .before .before .before .before .before .before
+
+abbrev placed : tie.After-enum-told → tie.After-place-all
+placed c = c .before .before .before .before .before .before
+
+facts : (c : tie.Start) → let f = c .args .facts in let fs = flowsOf (c .args .list .now) in (f .cycle ≡ cycle fs) × (f .frame ≡ frame fs) × (f .grants ≡ grants fs) × (f .load ≡ load fs)
+facts c = facts-are (c .args .facts) (flowsOf (c .args .list .now)) (c .pre .1)
+
+-- the frames of the cycle are no more than there are cells
+frames : (c : tie.Start) → c .args .facts .cycle / c .args .facts .frame ≤ 256
+frames c = rw (facts c .0, facts c .1) (c .pre .0 .frames-le)
+
+-- the layout that stands
+standing : (c : tie.After-enum-told) → let a = start (placed c) .args in let p = placed c .place-all in
+    Standing (a .list .now) (a .room .now) (start (placed c) .pre .0) (a .facts .frame) (facts (start (placed c)) .1) (p .last .1 .1 .0) (p .last .1 .1 .1 .0) (p .last .1 .1 .1 .1 .0) (p .last .1 .1 .1 .1 .1 .0) (a .facts .cycle / a .facts .frame - 0)
+standing c =
+    let s = start (placed c) in
+    let a = s .args in
+    let p = placed c .place-all in
+    answer-standing (a .list .now) (a .room .now) (s .pre .0) (a .facts .frame) (facts s .1) (p .last .1 .1 .0) (p .last .1 .1 .1 .0) (p .last .1 .1 .1 .1 .0) (p .last .1 .1 .1 .1 .1 .0) (p .result)
+    (a .facts .cycle / a .facts .frame - 0) (p .ensures) (c .enum-told .given .1) (sub-zero _ ∙ ap (λ (x : ℕ). x / a .facts .frame) (facts s .0))
+
+empty-requires : tie.Need-empty-requires
+empty-requires c κs = search needs
+
+slice-aggregate-place-all : tie.Need-slice-aggregate-place-all
+slice-aggregate-place-all c = search needs
+
+slice-aggregate-place-all-2 : tie.Need-slice-aggregate-place-all-2
+slice-aggregate-place-all-2 c = search needs
+
+slice-aggregate-place-all-3 : tie.Need-slice-aggregate-place-all-3
+slice-aggregate-place-all-3 c = search needs
+
+slice-aggregate-place-all-4 : tie.Need-slice-aggregate-place-all-4
+slice-aggregate-place-all-4 c = search needs
+
+place-all-requires : tie.Need-place-all-requires
+place-all-requires c κs =
+    let s = c .before .before .before .before .before .before .before .before .before .before .before in
+    let e = c .before .before .before .before .before .before .before .before .empty .ensures in
+    let n = length-flows (s .args .list .now) in
+    let few = s .pre .0 .few in
+    ((omega (arith, ap length (e .1 .0), few), omega (arith, ap length (e .1 .1), few)), ((s .pre .0, facts s .1), e .0))
+
+enum-known-placed : tie.Need-enum-known-placed
+enum-known-placed c = search needs
+
+returns : tie.Need-returns
+returns c =
+    let g = c .before .before .before .before .before .before .before in
+    let s = start g in
+    let a = s .args in
+    let p = g .place-all in
+    answer-refused (a .list .now) (a .room .now) (s .pre .0) (a .facts .frame) (facts s .1) (p .last .1 .1 .0) (p .last .1 .1 .1 .0) (p .last .1 .1 .1 .1 .0) (p .last .1 .1 .1 .1 .1 .0) (p .result) (c .before .placed .given .0 .0) (p .ensures) (c .before .placed .given .1)
+
+enum-told : tie.Need-enum-told
+enum-told c = search needs
+
+div-width : tie.Need-div-width
+div-width c = let s = start (placed c) in omega (arith, frame-pos (flowsOf (s .args .list .now)) (s .pre .0), facts s .1)
+
+cast-width : tie.Need-cast-width
+cast-width c = omega (arith, frames (start (placed c)))
+
+cast-write-head : tie.Need-cast-write-head
+cast-write-head c = let s = start (placed c) in omega (arith, s .pre .0 .grants-le, facts s .2)
+
+write-head-requires : tie.Need-write-head-requires
+write-head-requires c κs = search needs
+
+sub-write-grants : tie.Need-sub-write-grants
+sub-write-grants c = search needs
+
+part-write-grants-start : tie.Need-part-write-grants-start
+part-write-grants-start c = search needs
+
+part-write-grants-end : tie.Need-part-write-grants-end
+part-write-grants-end c =
+    let p = placed (c .before .before .before .before .before) in
+    omega (arith, frames (start p), p .place-all .kept .1 .1 .0, ap length (p .before .before .before .before .before .before .before .before .before .empty .ensures .0 .0))
+
+slice-aggregate-write-grants : tie.Need-slice-aggregate-write-grants
+slice-aggregate-write-grants c = search needs
+
+slice-aggregate-write-grants-2 : tie.Need-slice-aggregate-write-grants-2
+slice-aggregate-write-grants-2 c = search needs
+
+write-grants-requires : tie.Need-write-grants-requires
+write-grants-requires c κs =
+    let d = c .before .before .before .before .before .before .before .before .before in
+    let p = placed d in
+    let s = start p in
+    let e = p .before .before .before .before .before .before .before .before .before .empty .ensures in
+    let n = length-flows (s .args .list .now) in
+    let few = s .pre .0 .few in
+    let S = standing d in (
+      (omega (arith, p .place-all .kept .1 .1 .1 .1 .0, ap length (e .1 .0), few), omega (arith, p .place-all .kept .1 .1 .1 .1 .1 .0, ap length (e .1 .1), few)),
+      ((s .pre .0, facts s .1), (S .settled, S .tabled)),
+    )
+
+mul-t40 : tie.Need-mul-t40
+mul-t40 c =
+    let s = start (placed (c .before .before .before .before .before .before .before .before .before .before .before .before)) in
+    omega (arith, s .pre .0 .grants-le, facts s .2)
+
+add-t41 : tie.Need-add-t41
+add-t41 c =
+    let s = start (placed (c .before .before .before .before .before .before .before .before .before .before .before .before)) in
+    omega (arith, s .pre .0 .grants-le, facts s .2)
+
+same-length : tie.Need-same-length
+same-length c = search needs
+
+returns-2 : tie.Need-returns-2
+returns-2 c =
+    let w = c .before .before in
+    let h = w .before .before .before .before .before .before .before .before in
+    let d = h .before .before in
+    let p = placed d .place-all in
+    let s = start (placed d) in
+    let a = s .args in
+    let S = standing d in
+    answer-written (a .list .now) (a .room .now) (s .pre .0) (a .facts .frame) (facts s .1) (p .last .1 .1 .0) (p .last .1 .1 .1 .0) (p .last .1 .1 .1 .1 .0) (p .last .1 .1 .1 .1 .1 .0)
+    (a .facts .cycle / a .facts .frame - 0) (a .facts .cycle) (a .facts .grants) (h .write-head .last .1 .1 .1 .0) (w .write-grants .last .1 .1 .1 .1 .1 .0) (facts s .0) (facts s .2) (s .pre .2) S
+    (h .write-head .ensures .1) (w .write-grants .ensures (S .settled) (S .tabled))
+
+pub place-and-write-spec : {M : Type 1} → statement M
+place-and-write-spec =
+    tie.close
+    (tie.spec
+    empty-requires
+    slice-aggregate-place-all
+    slice-aggregate-place-all-2
+    slice-aggregate-place-all-3
+    slice-aggregate-place-all-4
+    place-all-requires
+    enum-known-placed
+    returns
+    enum-told
+    div-width
+    cast-width
+    cast-write-head
+    write-head-requires
+    sub-write-grants
+    part-write-grants-start
+    part-write-grants-end
+    slice-aggregate-write-grants
+    slice-aggregate-write-grants-2
+    write-grants-requires
+    mul-t40
+    add-t41
+    same-length
+    returns-2)

@@ -1,0 +1,4 @@
+pub mod Intervals
+pub mod Finished
+pub mod Rows
+pub mod Plan
