@@ -24,7 +24,7 @@ pub fn width(v: u16) -> usize
 }
 
 // Writes the last k digits of a number at a place of the room; the rest stays.
-fn put_digits(v: u16, k: usize, room: &mut [u8], at: usize)
+pub fn put_digits(v: u64, k: usize, room: &mut [u8], at: usize)
     requires { ⌜ at + k ≤ length (now room) ⌝ }
     ensures { λ _. ⌜ now (room .exit) ≡ sets (now (room .entry)) at (digits k v) ⌝ }
 {
@@ -48,6 +48,6 @@ pub fn put_number(v: u16, room: &mut [u8], at: usize) -> usize
     if !fits(at, k, room.len()) {
         return at;
     }
-    put_digits(v, k, room, at);
+    put_digits(v as u64, k, room, at);
     at + k
 }

@@ -4,11 +4,13 @@
 // as it is.
 mod decimal;
 mod number;
+mod numeral;
 mod word;
 
 pub use decimal::put_number;
 pub use decimal::width;
 pub use number::Number;
 pub use number::number_after;
+pub use numeral::put_numeral;
 pub use word::begins;
 pub use word::put;
