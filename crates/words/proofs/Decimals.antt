@@ -16,7 +16,7 @@ use Rattle.words.specs.Numbers.{formed}
 use Rattle.words.specs.Decimals.{width, digits, decimal}
 use Rattle.words.proofs.Numbers.{formed-none, formed-long, formed-more}
 
-length-digits : (k v : ℕ) → length (digits k v) ≡ k
+pub length-digits : (k v : ℕ) → length (digits k v) ≡ k
 unfolding digits
 length-digits zero v = refl
 length-digits (suc k) v = length-append (digits k (v / 10)) ((48 + v % 10) ∷ []) ∙ omega (arith, length-digits k (v / 10))
