@@ -2,7 +2,8 @@
 ghost use mathlib.Core.Path.{_≡_};
 ghost use Rattle.refusals.specs.Refusals.{number, place};
 
-// A refusal, named after its test, with the record or line at fault where document 01 names one.
+// A refusal, named after its test, with the place at fault where document 01 names one: its number, when it is given, and what
+// the place counts.
 pub enum Refusal {
     // 1: list under 4 bytes, or not its exact length
     Length,
@@ -10,11 +11,11 @@ pub enum Refusal {
     Head,
     // 3: count 0 or over 128
     Count,
-    // 4: a field breaks its rule
+    // 4: a field breaks its rule: record
     Field(usize),
-    // 5: number already used by an earlier record
+    // 5: number already used by an earlier record: record
     UsedNumber(usize),
-    // 6: interval unrelated to an earlier one
+    // 6: interval unrelated to an earlier one: record
     Unrelated(usize),
     // 7: over 256 frames or over 1,024 grants
     Limits,
@@ -22,27 +23,27 @@ pub enum Refusal {
     Overload,
     // 9: room to write is too short
     Room,
-    // 10: no lawful frame
+    // 10: no lawful frame: record of the first such flow in placing order
     NoFrame(usize),
     // 11: table under 8 bytes, or wrong edition, kind, spare bits, count or length
     TableForm,
-    // 12: starts not strictly rising
+    // 12: starts not strictly rising: table record
     NotRising(usize),
     // 13: cycle or frame not the list's
     OtherCycle,
-    // 14: flow not in the list
+    // 14: flow not in the list: table record
     UnknownFlow(usize),
-    // 15: wrong number of grants
+    // 15: wrong number of grants: list record
     GrantCount(usize),
-    // 16: late over the jitter or over the start, first nominal time not below the interval, or a wrong step
+    // 16: late over the jitter or over the start, first nominal time not below the interval, or a wrong step: table record
     Timing(usize),
-    // 17: overlaps the record before
+    // 17: overlaps the record before: table record
     Overlap(usize),
-    // 18: ends after the cycle
+    // 18: ends after the cycle: table record
     PastCycle(usize),
     // 19: window ends not 0 ≤ a ≤ b ≤ cycle
     WindowEnds,
-    // 20: a sheet line not of its form
+    // 20: a sheet line not of its form: line
     Line(usize),
 }
 

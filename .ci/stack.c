@@ -1,0 +1,70 @@
+/* The deepest stack of each function of the C interface: it is called on a stack of its own that is painted beforehand, on lists and
+ * tables that reach every part of it, and the lowest byte that it touched is looked for. */
+#include <stdio.h>
+#include <string.h>
+#include <ucontext.h>
+
+#include "snowploughy.h"
+
+enum { STACK = 1 << 16, PAINT = 0xA7 };
+static uint8_t stack[STACK] __attribute__((aligned(64)));
+static ucontext_t here, there;
+static void (*call)(void);
+
+static uint8_t sheet[SNOWPLOUGHY_SHEET_BYTES], list[SNOWPLOUGHY_LIST_BYTES], table[SNOWPLOUGHY_TABLE_BYTES];
+static uint64_t sheet_len, list_len, table_len, first, value;
+static uint8_t room[1 << 15];
+static size_t room_len;
+
+static void nothing(void) {}
+static void pack(void) { snowploughy_list_from_sheet(sheet, sheet_len, room, room_len, &value); }
+static void print(void) { snowploughy_sheet_from_list(list, list_len, room, room_len, &value); }
+static void plan(void) { snowploughy_plan(list, list_len, room, room_len, &value); }
+static void check(void) { snowploughy_check(list, list_len, table, table_len, &value); }
+static void window(void) { snowploughy_window(table, table_len, 0, 4096, &first, &value); }
+static void run(void) { call(); }
+
+static size_t depth(void (*f)(void)) {
+    memset(stack, PAINT, STACK);
+    getcontext(&there);
+    there.uc_stack.ss_sp = stack;
+    there.uc_stack.ss_size = STACK;
+    there.uc_link = &here;
+    call = f;
+    makecontext(&there, run, 0);
+    swapcontext(&here, &there);
+    size_t low = 0;
+    while (low < STACK && stack[low] == PAINT) low++;
+    return STACK - low;
+}
+
+/* A list of n flows of one size and jitter, the first few with the interval `frame` and the rest with `cycle`. */
+static void make(unsigned n, unsigned few, unsigned size, unsigned frame, unsigned cycle, unsigned jitter) {
+    char text[64];
+    sheet_len = 0;
+    for (unsigned i = 0; i < n; i++) {
+        unsigned interval = i < few ? frame : cycle;
+        int k = snprintf(text, sizeof text, "flow %u size %u every %u jitter %u\n", i + 1, i < few ? 1 : size, interval, i < few ? jitter : 0);
+        memcpy(sheet + sheet_len, text, k);
+        sheet_len += k;
+    }
+    snowploughy_list_from_sheet(sheet, sheet_len, list, sizeof list, &list_len);
+    if (snowploughy_plan(list, list_len, table, sizeof table, &table_len)) table_len = 0;
+}
+
+int main(void) {
+    struct { const char *name; void (*f)(void); size_t most; } calls[] = {
+        {"list_from_sheet", pack, 0}, {"sheet_from_list", print, 0}, {"plan", plan, 0}, {"check", check, 0}, {"window", window, 0}};
+    unsigned lists[][6] = {{3, 1, 2, 4, 8, 2}, {128, 2, 30, 16, 4096, 15}, {8, 4, 1, 16, 4080, 0}, {128, 0, 1, 4, 4096, 0}, {2, 1, 9, 4, 8, 0}, {0, 0, 0, 0, 0, 0}};
+    size_t base = depth(nothing);
+    for (size_t l = 0; l < sizeof lists / sizeof *lists; l++) {
+        make(lists[l][0], lists[l][1], lists[l][2], lists[l][3], lists[l][4], lists[l][5]);
+        for (room_len = 0; room_len <= sizeof room; room_len += sizeof room)
+            for (size_t c = 0; c < 5; c++) {
+                size_t d = depth(calls[c].f) - base;
+                if (d > calls[c].most) calls[c].most = d;
+            }
+    }
+    for (size_t c = 0; c < 5; c++) printf("stack of snowploughy_%s: %zu bytes\n", calls[c].name, calls[c].most);
+    return 0;
+}
