@@ -66,7 +66,7 @@ pub extern "C" fn snowploughy_check(list: &[u8], table: &[u8], out: &mut u64) ->
     ensures number { λ r. ⌜ r ≡ checkCode (check (now (list .entry)) (now (table .entry))) ⌝ }
     ensures value { λ _. ⌜ now (out .exit) ≡ checkValue (check (now (list .entry)) (now (table .entry))) ⌝ }
 {
-    let checked = law::check(list, table);
+    let checked = checking::check(list, table);
     match checked {
         Checked::Passed => {
             *out = 0;

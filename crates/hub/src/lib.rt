@@ -3,7 +3,7 @@
 // Every operation answers for every input; no caller has to check anything first. The promises about them stand in `proofs/`.
 mod c;
 
-pub use law::check;
+pub use checking::check;
 pub use planner::plan;
 pub use sheets::list_from_sheet;
 pub use sheets::sheet_from_list;

@@ -8,6 +8,4 @@ pub mod Reading
 pub mod CheckIsLaw
 pub mod Demand
 pub mod Oversold
-pub mod Turns
-pub mod Verdicts
 pub mod Cases

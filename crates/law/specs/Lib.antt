@@ -1,4 +1,3 @@
 pub mod Check
 pub mod Law
 pub mod Lawful
-pub mod Parts

@@ -1,13 +1,2 @@
-// The check of a table against its list, and the 2002 scheduling rules that it is exactly.
-//
-// It writes nothing. No public function asks anything of its caller.
-mod belongs;
-mod counts;
-mod flows;
-mod grants;
-mod slots;
-mod tests;
-mod timing;
-
-pub use tests::check;
-pub use tests::law_tests;
+// The 2002 scheduling rules, repeated forever; document 01's check of a table against its list; and that the check is exactly
+// them. It has no code: `checking` is the check's.
