@@ -31,14 +31,14 @@ impl Kind {
     }
 
     // The record's row of the table.
-    pub fn widths(self) -> [u8; 6]
+    pub(crate) fn widths(self) -> [u8; 6]
         ensures { λ r. ⌜ r ≡ widths self ⌝ }
     {
         WIDTHS[self.row()]
     }
 
     // How many bytes the record takes.
-    pub fn bytes(self) -> usize
+    pub(crate) fn bytes(self) -> usize
         ensures { λ r. ⌜ r ≡ bytes self ⌝ }
     {
         match self {
