@@ -2,6 +2,8 @@ pub mod Rising
 pub mod Bounds
 pub mod Reaching
 pub mod Turns
+pub mod Ordering
+pub mod Housing
 pub mod Writing
 pub mod Tabling
 pub mod Printing

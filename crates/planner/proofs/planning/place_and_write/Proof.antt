@@ -34,7 +34,7 @@ standing c =
     let a = s .args in
     let p = placed c .place-all in
     answer-standing (a .list .now) (a .room .now) (s .pre .0) (a .facts .frame) (facts s .1) (p .last .1 .1 .0) (p .last .1 .1 .1 .0) (p .last .1 .1 .1 .1 .0) (p .last .1 .1 .1 .1 .1 .0) (p .result)
-    (a .facts .cycle / a .facts .frame - 0) (p .ensures) (c .enum-told .given .1) (sub-zero _ ∙ ap (λ (x : ℕ). x / a .facts .frame) (facts s .0))
+    (a .facts .cycle / a .facts .frame - 0) (p .ensures .0) (c .enum-told .given .1) (sub-zero _ ∙ ap (λ (x : ℕ). x / a .facts .frame) (facts s .0))
 
 empty-requires : tie.Need-empty-requires
 empty-requires c κs = search needs
@@ -68,7 +68,7 @@ returns c =
     let s = start g in
     let a = s .args in
     let p = g .place-all in
-    answer-refused (a .list .now) (a .room .now) (s .pre .0) (a .facts .frame) (facts s .1) (p .last .1 .1 .0) (p .last .1 .1 .1 .0) (p .last .1 .1 .1 .1 .0) (p .last .1 .1 .1 .1 .1 .0) (p .result) (c .before .placed .given .0 .0) (p .ensures) (c .before .placed .given .1)
+    answer-refused (a .list .now) (a .room .now) (s .pre .0) (a .facts .frame) (facts s .1) (p .last .1 .1 .0) (p .last .1 .1 .1 .0) (p .last .1 .1 .1 .1 .0) (p .last .1 .1 .1 .1 .1 .0) (p .result) (c .before .placed .given .0 .0) (p .ensures .0) (c .before .placed .given .1)
 
 enum-told : tie.Need-enum-told
 enum-told c = search needs
