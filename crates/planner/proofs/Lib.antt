@@ -3,6 +3,7 @@ pub mod Bounds
 pub mod Reaching
 pub mod Turns
 pub mod Ordering
+pub mod Queueing
 pub mod Housing
 pub mod Writing
 pub mod Tabling
