@@ -7,7 +7,6 @@ use lib.ListN.{getD, set}
 use lib.Seq.{getD-set-other}
 use Rattle.logic.specs.Lists.{All}
 use Rattle.logic.proofs.Tests.{by-eq}
-use Rattle.fields.specs.declared.flow.Flow.{Flow}
 use Rattle.lists.specs.Lists.{count, flowAt, flowsFrom, flowsOf}
 use Rattle.lists.specs.Facts.{occupies}
 use Rattle.placing.proofs.Groups.{by-found}

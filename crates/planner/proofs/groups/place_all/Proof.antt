@@ -119,11 +119,12 @@ returns c =
     let loop = g .before .before .before .before .before .before in
     let v = loop .loop in
     let s = start loop in
-    let k = fits (g .before .before .before .before .before) in
-    (refused-on (s .pre .1 .0 .0) (v .inv .4 .3) (g .before .before .before .before .before .loop-test .taken) (s .pre .1 .0 .1)
-    (v .interval / s .args .frame - 0) (sub-zero _) (omega (arith, v .inv .0)) (omega (arith, v .inv .1))
-    (c .before .placed .given .0 .0) (g .add-group .result) _ _ _ _ _ _ (g .add-group .ensures .0) (c .before .placed .given .1),
-    λ z. let y : _≡_ {A = ℕ} 0 1 = cc in absurd (omega arith))
+    let k = fits (g .before .before .before .before .before) in (
+      refused-on (s .pre .1 .0 .0) (v .inv .4 .3) (g .before .before .before .before .before .loop-test .taken) (s .pre .1 .0 .1)
+          (v .interval / s .args .frame - 0) (sub-zero _) (omega (arith, v .inv .0)) (omega (arith, v .inv .1))
+          (c .before .placed .given .0 .0) (g .add-group .result) _ _ _ _ _ _ (g .add-group .ensures .0) (c .before .placed .given .1),
+      λ z. let y : _≡_ {A = ℕ} 0 1 = cc in absurd (omega arith),
+    )
 
 enum-told : tie.Need-enum-told Inv-loop μ-loop
 enum-told c = search needs
@@ -154,8 +155,13 @@ loop-again c =
       length-front (v .limits) (g .add-group .last .1 .1 .1 .1 .1 .0) part (g .add-group .kept .1 .1 .1 .1 .1 .0) ∙ v .inv .1,
       g .add-group .kept .1 .1 .1 .1 .1 .1 .0 ∙ v .inv .2,
       g .add-group .kept .1 .1 .1 .1 .1 .1 .1 .0 ∙ v .inv .3,
-      (v .interval, v .inv .4 .1 ++ (v .interval ∷ []), on .0, rw (c .next-interval .ensures) (on .1),
-      housed-on (s .args .frame) (v .width) (v .interval) (s .args .list .now) (v .frames) (g .add-group .last .1 .1 .1 .1 .1 .1 .0) (v .inv .4 .1) (v .inv .4 .3 .next (g .before .before .before .before .before .loop-test .taken) .2) (v .inv .4 .4) k (g .add-group .ensures .1 (c .before .enum-told .given .1))),
+      (
+        v .interval,
+        v .inv .4 .1 ++ (v .interval ∷ []),
+        on .0,
+        rw (c .next-interval .ensures) (on .1),
+        housed-on (s .args .frame) (v .width) (v .interval) (s .args .list .now) (v .frames) (g .add-group .last .1 .1 .1 .1 .1 .1 .0) (v .inv .4 .1) (v .inv .4 .3 .next (g .before .before .before .before .before .loop-test .taken) .2) (v .inv .4 .4) k (g .add-group .ensures .1 (c .before .enum-told .given .1)),
+      ),
     )
 
 same-length-5 : tie.Need-same-length-5 Inv-loop μ-loop
