@@ -14,7 +14,7 @@ use Rattle.layout.specs.declared.placed.Placed.{Placed}
 use Rattle.layout.specs.Cells.{first, Laid, laidOf, groupCells}
 use Rattle.layout.specs.State.{Before}
 use Rattle.layout.proofs.Groups.{Inside, step-other, step-at, step-nowhere, cells-on, cells-stop}
-use Rattle.planner.specs.Order.{Housed, Taken}
+use Rattle.planner.specs.Finished.{Housed, Taken}
 use Rattle.planner.proofs.Turns.{inside-at}
 
 -- placing a group leaves the frame of a flow of another interval

@@ -10,8 +10,7 @@ ghost use Rattle.placing.specs.Rule.{intervals, layout};
 ghost use Rattle.layout.specs.declared.placed.Placed.the-variants.{Lawful};
 ghost use Rattle.layout.specs.Cells.{free, over, groupCells, laidOf, endCells, endedOf};
 ghost use Rattle.layout.specs.State.{Ready, Added};
-ghost use Rattle.planner.specs.Finished.{Finished};
-ghost use Rattle.planner.specs.Order.{Housed, Taken};
+ghost use Rattle.planner.specs.Finished.{Finished, Housed, Taken};
 use crate::intervals::next_interval;
 use layout::Placed;
 

@@ -10,7 +10,7 @@ use Rattle.logic.specs.Lists.{All}
 use Rattle.lists.specs.Lists.{flowsOf}
 use Rattle.placing.specs.Rule.{Settled}
 use Rattle.planner.specs.Intervals.{from}
-use Rattle.planner.specs.Order.{Housed}
+use Rattle.planner.specs.Finished.{Housed}
 use Rattle.lists.proofs.Cycle.{frame-pos}
 use Rattle.planner.proofs.Bounds.{frames-le}
 use Rattle.planner.proofs.Reaching.{Reached, reached-start, ready-on, refused-on, next-on, reached-all, reached-end, to-come}
