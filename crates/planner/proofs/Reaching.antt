@@ -200,10 +200,12 @@ module _ {φ i t w : ℕ} {fs : List Flow} {is : List ℕ} {hs : List (List Sett
 
 -- ---- the end
 
-pub reached-end : {φ i t w : ℕ} {fs : List Flow} {is : List ℕ} {hs : List (List Settled)} {cs ls ks bs : List ℕ} → Reached φ i t w fs is hs cs ls ks bs → i ≡ 0
-    → Finished φ fs (layout fs) Lawful cs ls ks bs
-unfolding groups
-reached-end {φ} {i} {t} {w} {fs} {is} {hs} {cs} {ls} {ks} {bs} R z =
-    let l : layout fs ≡ done hs = sym (R .rest) ∙ rw (from-none fs i z) in
-    let o : is ≡ intervals fs = sym (append-nil is) ∙ rw (sym (from-none fs i z)) (R .order) in
-    rw l (refl, rw (R .wide, sym o) (R .agrees), rw (R .wide) (R .slots ∙ R .end z), rw (R .wide) (R .most))
+module _ {φ i t w : ℕ} {fs : List Flow} {is : List ℕ} {hs : List (List Settled)} {cs ls ks bs : List ℕ} (R : Reached φ i t w fs is hs cs ls ks bs) (z : i ≡ 0) where
+  pub reached-all : is ≡ intervals fs
+  reached-all = sym (append-nil is) ∙ rw (sym (from-none fs i z)) (R .order)
+
+  pub reached-end : Finished φ fs (layout fs) Lawful cs ls ks bs
+  unfolding groups
+  reached-end =
+      let l : layout fs ≡ done hs = sym (R .rest) ∙ rw (from-none fs i z) in
+      rw l (refl, rw (R .wide, sym reached-all) (R .agrees), rw (R .wide) (R .slots ∙ R .end z), rw (R .wide) (R .most))

@@ -1,4 +1,5 @@
 pub mod Intervals
 pub mod Finished
 pub mod Rows
+pub mod Order
 pub mod Plan

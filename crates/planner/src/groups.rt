@@ -1,14 +1,16 @@
 // The groups of a list, placed by rising interval.
 ghost use mathlib.Core.Path.{_≡_};
-ghost use Prim.Native.Nat.{ℕ, _*_, _≤_, _<_};
+ghost use Prim.Native.Nat.{ℕ, _*_, _/_, _≤_, _<_};
 ghost use lib.ListN.{length, take, getD, replicate};
+ghost use Rattle.logic.specs.Lists.{All};
 ghost use Rattle.lists.specs.Lists.{count, flowAt, flowsOf};
 ghost use Rattle.lists.specs.Facts.{frame as frameOf};
 ghost use Rattle.lists.specs.Accepted.{Accepted};
-ghost use Rattle.placing.specs.Rule.{layout};
+ghost use Rattle.placing.specs.Rule.{intervals, layout};
+ghost use Rattle.layout.specs.declared.placed.Placed.the-variants.{Lawful};
 ghost use Rattle.layout.specs.Cells.{free, over, groupCells, laidOf, endCells, endedOf};
 ghost use Rattle.layout.specs.State.{Ready, Added};
-ghost use Rattle.planner.specs.Finished.{Finished};
+ghost use Rattle.planner.specs.Finished.{Finished, Housed, Taken};
 use crate::intervals::next_interval;
 use layout::Placed;
 
@@ -70,6 +72,7 @@ fn add_group(
     requires { ⌜ (count (now list) ≤ length (now frames)) × (count (now list) ≤ length (now bases)) ⌝ }
     requires { ⌜ Ready frame interval width (flowsOf (now list)) (now contents) (now limits) (now frames) (now bases) ⌝ }
     ensures { λ r. ⌜ Added frame interval width (flowsOf (now (list .entry))) (now (contents .entry)) (now (limits .entry)) (now (frames .entry)) (now (bases .entry)) r (now (contents .exit)) (now (limits .exit)) (now (frames .exit)) (now (bases .exit)) ⌝ }
+    ensures { λ r. ⌜ (r ≡ Lawful → Taken (now (list .entry)) interval (interval / frame) (now (frames .entry)) (now (frames .exit))) ⌝ }
 {
     layout::repeat(contents, width);
     layout::repeat(limits, width);
@@ -94,6 +97,7 @@ pub fn place_all(
     requires { ⌜ Accepted (flowsOf (now list)) × (frame ≡ frameOf (flowsOf (now list))) ⌝ }
     requires { ⌜ (now contents ≡ replicate 256 0) × (now limits ≡ replicate 256 free) ⌝ }
     ensures { λ r. ⌜ Finished frame (flowsOf (now (list .entry))) (layout (flowsOf (now (list .entry)))) r (now (contents .exit)) (now (limits .exit)) (now (frames .exit)) (now (bases .exit)) ⌝ }
+    ensures { λ r. ⌜ (r ≡ Lawful → All (Housed frame (now (list .entry)) (now (frames .exit))) (intervals (flowsOf (now (list .entry))))) ⌝ }
 {
     let mut width: usize = 1;
     let mut interval = frame;

@@ -2,6 +2,7 @@
 mod grants;
 mod groups;
 mod intervals;
+mod order;
 mod planning;
 
 pub use planning::plan;

@@ -44,7 +44,15 @@ fn place_and_write(list: &[u8], facts: Facts, room: &mut [u8]) -> Written
     }
     let width = (cycle / frame) as usize;
     tables::write_head(grants as u16, cycle, frame, room);
-    write_grants(list, frame, &contents[0..width], &frames, &bases, room);
+    write_grants(
+        list,
+        frame,
+        &contents[0..width],
+        &frames,
+        &bases,
+        &mut limits,
+        room,
+    );
     Written::Bytes(8 + 5 * grants as usize)
 }
 

@@ -1,12 +1,13 @@
 -- `planner::groups::add_group` meets its contract. Assumes nothing.
 use mathlib.Core.Path.{_≡_, sym, ap, _∙_}
-use Prim.Native.Nat.{ℕ, _*_, _≤_, _<_}
+use Prim.Native.Nat.{ℕ, _*_, _/_, _≤_, _<_}
 use native.Mathlib.Omega.{arith}
 use lib.ListN.{length}
 use Rattle.lists.proofs.Records.{length-flows}
 use Rattle.lists.specs.Lists.{flowsOf}
 use Rattle.layout.proofs.Closing.{Leaves, narrow, left-inside, left-low, added-refused, added-all}
 use Rattle.planner.proofs.Turns.{inside-at}
+use Rattle.planner.proofs.Housing.{taken}
 use borrow.Author.Needs.{needs}
 use Rattle.planner.proofs.groups.add_group.Statement.{statement}
 use Rattle.planner.proofs.groups.add_group.Tie as tie
@@ -63,7 +64,7 @@ same-length-3 c = search needs
 returns : tie.Need-returns
 returns c =
     let g = c .before .before .before .before .before .before .before in
-    added-refused (leaves g) (c .before .placed .given .0 .0) _ _ _ (c .before .placed .given .1)
+    (added-refused (leaves g) (c .before .placed .given .0 .0) _ _ _ (c .before .placed .given .1), λ z. let y : _≡_ {A = ℕ} 0 1 = cc in absurd (omega arith))
 
 enum-told : tie.Need-enum-told
 enum-told c = search needs
@@ -104,7 +105,12 @@ returns-2 : tie.Need-returns-2
 returns-2 c =
     let e = c .before .before .before .before in
     let g = e .before .before .before .before .before .before .before .before .before .before .before in
-    added-all (leaves g) (e .settle-group .last .1 .1 .1 .1 .0) (e .settle-group .last .1 .1 .1 .1 .1 .1 .0) (e .before .before .before .before .before .enum-told .given .1) (e .settle-group .ensures)
+    let a = start g .args in
+    let r = start g .pre .1 in
+    let all = e .before .before .before .before .before .enum-told .given .1 in (
+      added-all (leaves g) (e .settle-group .last .1 .1 .1 .1 .0) (e .settle-group .last .1 .1 .1 .1 .1 .1 .0) all (e .settle-group .ensures),
+      λ z. taken (a .list .now) (a .frame) (a .interval) (a .interval / a .frame) _ _ _ _ _ _ (g .place-group .ensures) (rw (r .2 .frames) at (left-inside (leaves g) (r .0) (r .1) (r .2) all)),
+    )
 
 pub add-group-spec : {M : Type 1} → statement M
 add-group-spec =

@@ -6,12 +6,15 @@ use native.Mathlib.Nat.{sub-zero}
 use native.Mathlib.Omega.{arith}
 use lib.ListN.{length, take}
 use lib.Seq.{length-front}
+use Rattle.logic.specs.Lists.{All}
 use Rattle.lists.specs.Lists.{flowsOf}
 use Rattle.placing.specs.Rule.{Settled}
 use Rattle.planner.specs.Intervals.{from}
+use Rattle.planner.specs.Finished.{Housed}
 use Rattle.lists.proofs.Cycle.{frame-pos}
 use Rattle.planner.proofs.Bounds.{frames-le}
-use Rattle.planner.proofs.Reaching.{Reached, reached-start, ready-on, refused-on, next-on, reached-end, to-come}
+use Rattle.planner.proofs.Reaching.{Reached, reached-start, ready-on, refused-on, next-on, reached-all, reached-end, to-come}
+use Rattle.planner.proofs.Housing.{housed-on}
 use borrow.Author.Needs.{needs}
 use Rattle.planner.proofs.groups.place_all.Statement.{statement}
 use Rattle.planner.proofs.groups.place_all.Tie as tie
@@ -19,7 +22,7 @@ use Rattle.planner.proofs.groups.place_all.Tie as tie
 abbrev Inv-loop : tie.InvT-loop
 Inv-loop list frame contents₀ limits₀ frames₀ bases₀ width₀ interval₀ contents limits frames bases width interval =
     (length contents ≡ 256) × (length limits ≡ 256) × (length frames ≡ length frames₀) × (length bases ≡ length bases₀)
-    × ((t : ℕ) × (is : List ℕ) × (hs : List (List Settled)) × Reached frame interval t width (flowsOf list) is hs contents limits frames bases)
+    × ((t : ℕ) × (is : List ℕ) × (hs : List (List Settled)) × Reached frame interval t width (flowsOf list) is hs contents limits frames bases × All (Housed frame list frames) is)
 
 abbrev μ-loop : tie.MeasureT-loop
 μ-loop list frame contents₀ limits₀ frames₀ bases₀ width₀ interval₀ contents limits frames bases width interval = length (from (flowsOf list) interval)
@@ -48,6 +51,7 @@ loop-holds c =
         [],
         [] ∷ [],
         rw f (reached-start (flowsOf (a .list .now)) (a .contents .now) (a .limits .now) (a .frames .now) (a .bases .now) (s .pre .1 .0 .0) (ap (take 1) (s .pre .1 .1 .0)) (ap (take 1) (s .pre .1 .1 .1))),
+        tt,
       ),
     )
 
@@ -115,10 +119,12 @@ returns c =
     let loop = g .before .before .before .before .before .before in
     let v = loop .loop in
     let s = start loop in
-    let k = fits (g .before .before .before .before .before) in
-    refused-on (s .pre .1 .0 .0) (v .inv .4 .3) (g .before .before .before .before .before .loop-test .taken) (s .pre .1 .0 .1)
-    (v .interval / s .args .frame - 0) (sub-zero _) (omega (arith, v .inv .0)) (omega (arith, v .inv .1))
-    (c .before .placed .given .0 .0) (g .add-group .result) _ _ _ _ _ _ (g .add-group .ensures) (c .before .placed .given .1)
+    let k = fits (g .before .before .before .before .before) in (
+      refused-on (s .pre .1 .0 .0) (v .inv .4 .3) (g .before .before .before .before .before .loop-test .taken) (s .pre .1 .0 .1)
+          (v .interval / s .args .frame - 0) (sub-zero _) (omega (arith, v .inv .0)) (omega (arith, v .inv .1))
+          (c .before .placed .given .0 .0) (g .add-group .result) _ _ _ _ _ _ (g .add-group .ensures .0) (c .before .placed .given .1),
+      λ z. let y : _≡_ {A = ℕ} 0 1 = cc in absurd (omega arith),
+    )
 
 enum-told : tie.Need-enum-told Inv-loop μ-loop
 enum-told c = search needs
@@ -144,12 +150,18 @@ loop-again c =
     next-on (s .pre .1 .0 .0) (v .inv .4 .3) (g .before .before .before .before .before .loop-test .taken) (s .pre .1 .0 .1)
     part (sub-zero _) (omega (arith, v .inv .0)) (omega (arith, v .inv .1))
     (g .add-group .result) (g .add-group .last .1 .1 .1 .1 .0) (g .add-group .last .1 .1 .1 .1 .1 .0) (g .add-group .last .1 .1 .1 .1 .1 .1 .0) (g .add-group .last .1 .1 .1 .1 .1 .1 .1 .0)
-    (g .add-group .kept .1 .1 .1 .1 .0) (g .add-group .kept .1 .1 .1 .1 .1 .0) (g .add-group .ensures) (c .before .enum-told .given .1) in (
+    (g .add-group .kept .1 .1 .1 .1 .0) (g .add-group .kept .1 .1 .1 .1 .1 .0) (g .add-group .ensures .0) (c .before .enum-told .given .1) in (
       length-front (v .contents) (g .add-group .last .1 .1 .1 .1 .0) part (g .add-group .kept .1 .1 .1 .1 .0) ∙ v .inv .0,
       length-front (v .limits) (g .add-group .last .1 .1 .1 .1 .1 .0) part (g .add-group .kept .1 .1 .1 .1 .1 .0) ∙ v .inv .1,
       g .add-group .kept .1 .1 .1 .1 .1 .1 .0 ∙ v .inv .2,
       g .add-group .kept .1 .1 .1 .1 .1 .1 .1 .0 ∙ v .inv .3,
-      (v .interval, v .inv .4 .1 ++ (v .interval ∷ []), on .0, rw (c .next-interval .ensures) (on .1)),
+      (
+        v .interval,
+        v .inv .4 .1 ++ (v .interval ∷ []),
+        on .0,
+        rw (c .next-interval .ensures) (on .1),
+        housed-on (s .args .frame) (v .width) (v .interval) (s .args .list .now) (v .frames) (g .add-group .last .1 .1 .1 .1 .1 .1 .0) (v .inv .4 .1) (v .inv .4 .3 .next (g .before .before .before .before .before .loop-test .taken) .2) (v .inv .4 .4) k (g .add-group .ensures .1 (c .before .enum-told .given .1)),
+      ),
     )
 
 same-length-5 : tie.Need-same-length-5 Inv-loop μ-loop
@@ -165,7 +177,7 @@ same-length-8 : tie.Need-same-length-8 Inv-loop μ-loop
 same-length-8 c = search needs
 
 returns-2 : tie.Need-returns-2 Inv-loop μ-loop
-returns-2 c = reached-end (c .before .loop .inv .4 .3) (c .loop-test .left)
+returns-2 c = let r = c .before .loop .inv .4 in (reached-end (r .3) (c .loop-test .left), λ z. rw (sym (reached-all (r .3) (c .loop-test .left))) (r .4))
 
 pub place-all-spec : {M : Type 1} → statement M
 place-all-spec =

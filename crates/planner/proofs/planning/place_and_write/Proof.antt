@@ -3,7 +3,7 @@ use mathlib.Core.Path.{_≡_, ap, _∙_}
 use Prim.Native.Nat.{ℕ, _-_, _/_, _≤_}
 use native.Mathlib.Nat.{sub-zero}
 use native.Mathlib.Omega.{arith}
-use lib.ListN.{length}
+use lib.ListN.{length, length-take}
 use Rattle.lists.proofs.Records.{length-flows}
 use Rattle.lists.specs.Lists.{flowsOf}
 use Rattle.lists.specs.Facts.{cycle, frame, grants, load}
@@ -34,7 +34,11 @@ standing c =
     let a = s .args in
     let p = placed c .place-all in
     answer-standing (a .list .now) (a .room .now) (s .pre .0) (a .facts .frame) (facts s .1) (p .last .1 .1 .0) (p .last .1 .1 .1 .0) (p .last .1 .1 .1 .1 .0) (p .last .1 .1 .1 .1 .1 .0) (p .result)
-    (a .facts .cycle / a .facts .frame - 0) (p .ensures) (c .enum-told .given .1) (sub-zero _ ∙ ap (λ (x : ℕ). x / a .facts .frame) (facts s .0))
+    (a .facts .cycle / a .facts .frame - 0) (p .ensures .0) (c .enum-told .given .1) (sub-zero _ ∙ ap (λ (x : ℕ). x / a .facts .frame) (facts s .0))
+
+-- there are no more grants than a table has
+grants-fit : (c : tie.After-enum-told) → start (placed c) .args .facts .grants ≤ 1024
+grants-fit c = let s = start (placed c) in omega (arith, s .pre .0 .grants-le, facts s .2)
 
 empty-requires : tie.Need-empty-requires
 empty-requires c κs = search needs
@@ -68,7 +72,7 @@ returns c =
     let s = start g in
     let a = s .args in
     let p = g .place-all in
-    answer-refused (a .list .now) (a .room .now) (s .pre .0) (a .facts .frame) (facts s .1) (p .last .1 .1 .0) (p .last .1 .1 .1 .0) (p .last .1 .1 .1 .1 .0) (p .last .1 .1 .1 .1 .1 .0) (p .result) (c .before .placed .given .0 .0) (p .ensures) (c .before .placed .given .1)
+    answer-refused (a .list .now) (a .room .now) (s .pre .0) (a .facts .frame) (facts s .1) (p .last .1 .1 .0) (p .last .1 .1 .1 .0) (p .last .1 .1 .1 .1 .0) (p .last .1 .1 .1 .1 .1 .0) (p .result) (c .before .placed .given .0 .0) (p .ensures .0) (c .before .placed .given .1)
 
 enum-told : tie.Need-enum-told
 enum-told c = search needs
@@ -80,7 +84,7 @@ cast-width : tie.Need-cast-width
 cast-width c = omega (arith, frames (start (placed c)))
 
 cast-write-head : tie.Need-cast-write-head
-cast-write-head c = let s = start (placed c) in omega (arith, s .pre .0 .grants-le, facts s .2)
+cast-write-head c = omega (arith, grants-fit c)
 
 write-head-requires : tie.Need-write-head-requires
 write-head-requires c κs = search needs
@@ -102,43 +106,48 @@ slice-aggregate-write-grants c = search needs
 slice-aggregate-write-grants-2 : tie.Need-slice-aggregate-write-grants-2
 slice-aggregate-write-grants-2 c = search needs
 
+slice-aggregate-write-grants-3 : tie.Need-slice-aggregate-write-grants-3
+slice-aggregate-write-grants-3 c = search needs
+
 write-grants-requires : tie.Need-write-grants-requires
 write-grants-requires c κs =
-    let d = c .before .before .before .before .before .before .before .before .before in
+    let d = c .before .before .before .before .before .before .before .before .before .before in
     let p = placed d in
     let s = start p in
     let e = p .before .before .before .before .before .before .before .before .before .empty .ensures in
     let n = length-flows (s .args .list .now) in
     let few = s .pre .0 .few in
+    let k = p .place-all .kept in
     let S = standing d in (
-      (omega (arith, p .place-all .kept .1 .1 .1 .1 .0, ap length (e .1 .0), few), omega (arith, p .place-all .kept .1 .1 .1 .1 .1 .0, ap length (e .1 .1), few)),
-      ((s .pre .0, facts s .1), (S .settled, S .tabled)),
+      (
+        omega (arith, k .1 .1 .1 .1 .0, ap length (e .1 .0), few),
+        omega (arith, k .1 .1 .1 .0, ap length (e .0 .1), few),
+        omega (arith, k .1 .1 .1 .1 .1 .0, ap length (e .1 .1)),
+        omega (arith, length-take (s .args .facts .cycle / s .args .facts .frame - 0) (p .place-all .last .1 .1 .0), frames s),
+      ),
+      ((s .pre .0, facts s .1), (p .place-all .ensures .1 (d .enum-told .given .1), (S .settled, S .tabled))),
     )
 
-mul-t40 : tie.Need-mul-t40
-mul-t40 c =
-    let s = start (placed (c .before .before .before .before .before .before .before .before .before .before .before .before)) in
-    omega (arith, s .pre .0 .grants-le, facts s .2)
+mul-t42 : tie.Need-mul-t42
+mul-t42 c = omega (arith, grants-fit (c .before .before .before .before .before .before .before .before .before .before .before .before .before .before))
 
-add-t41 : tie.Need-add-t41
-add-t41 c =
-    let s = start (placed (c .before .before .before .before .before .before .before .before .before .before .before .before)) in
-    omega (arith, s .pre .0 .grants-le, facts s .2)
+add-t43 : tie.Need-add-t43
+add-t43 c = omega (arith, grants-fit (c .before .before .before .before .before .before .before .before .before .before .before .before .before .before))
 
 same-length : tie.Need-same-length
 same-length c = search needs
 
 returns-2 : tie.Need-returns-2
 returns-2 c =
-    let w = c .before .before in
-    let h = w .before .before .before .before .before .before .before .before in
+    let w = c .before .before .before in
+    let h = w .before .before .before .before .before .before .before .before .before in
     let d = h .before .before in
     let p = placed d .place-all in
     let s = start (placed d) in
     let a = s .args in
     let S = standing d in
     answer-written (a .list .now) (a .room .now) (s .pre .0) (a .facts .frame) (facts s .1) (p .last .1 .1 .0) (p .last .1 .1 .1 .0) (p .last .1 .1 .1 .1 .0) (p .last .1 .1 .1 .1 .1 .0)
-    (a .facts .cycle / a .facts .frame - 0) (a .facts .cycle) (a .facts .grants) (h .write-head .last .1 .1 .1 .0) (w .write-grants .last .1 .1 .1 .1 .1 .0) (facts s .0) (facts s .2) (s .pre .2) S
+    (a .facts .cycle / a .facts .frame - 0) (a .facts .cycle) (a .facts .grants) (h .write-head .last .1 .1 .1 .0) (w .write-grants .last .1 .1 .1 .1 .1 .1 .0) (facts s .0) (facts s .2) (s .pre .2) S
     (h .write-head .ensures .1) (w .write-grants .ensures (S .settled) (S .tabled))
 
 pub place-and-write-spec : {M : Type 1} → statement M
@@ -163,8 +172,9 @@ place-and-write-spec =
     part-write-grants-end
     slice-aggregate-write-grants
     slice-aggregate-write-grants-2
+    slice-aggregate-write-grants-3
     write-grants-requires
-    mul-t40
-    add-t41
+    mul-t42
+    add-t43
     same-length
     returns-2)
