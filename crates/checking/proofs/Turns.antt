@@ -1,21 +1,24 @@
 -- One turn of each loop of the check: what is left to look at, at entry i. Assumes nothing.
-use mathlib.Core.Path.{_≡_, ap, _∙_}
+use mathlib.Core.Path.{_≡_, sym, ap, _∙_}
 use mathlib.Core.Bool.{true, false}
 use mathlib.Core.List.{List, _∷_}
 use mathlib.Core.Option.{some}
-use Prim.Native.Nat.{ℕ, suc, _+_, _≤_, _<_}
+use Prim.Native.Nat.{ℕ, suc, _+_, _%_, _≤_, _<_, min}
 use native.Mathlib.Numerals.{add-one}
 use native.Mathlib.Omega.{arith}
-use lib.ListN.{length, getD, drop, drop-of-length-le}
-use lib.Seq.{drop-cons}
+use native.Mathlib.Nat.{mod-lt}
+use lib.Dec.{lit<}
+use lib.ListN.{length, getD, set, drop, replicate, length-set, getD-replicate, drop-of-length-le}
+use lib.Seq.{drop-cons, getD-set-same, getD-set-other}
 use borrow.Author.Tests.{eq-eqb, ne-eqb}
+use Rattle.logic.proofs.Tests.{by-lt, by-eq}
 use Rattle.fields.specs.declared.flow.Flow.{Flow}
 use Rattle.fields.specs.Flows.{noFlow}
 use Rattle.refusals.proofs.Walks.{before}
 use Rattle.tables.specs.declared.packed.Grant.{Grant}
 use Rattle.law.specs.Check.{known, look, nominal, to, last}
 use Rattle.law.specs.Law.{blank}
-use Rattle.checking.specs.Parts.{found}
+use Rattle.checking.specs.Parts.{found, recordOf, Indexed}
 
 -- entry i and those after it
 opens : {A : Type 0} (xs : List A) (d x : A) (i : ℕ) → i < length xs → x ≡ getD xs i d → drop i xs ≡ x ∷ drop (i + 1) xs
@@ -36,6 +39,40 @@ module _ (fs : List Flow) (x i : ℕ) where
     pub found-next : (f .number ≡ x → ⊥) → found (drop i fs) x ≡ found (drop (i + 1) fs) x
     unfolding known look
     found-next n = rw (opens fs noFlow f i h e, known, look, ne-eqb (f .number) x n)
+
+-- ---- the records that are noted for the numbers
+
+note : (rs : List ℕ) (k i x : ℕ) → length rs ≡ 1024 → x % 1024 ≡ k % 1024 → recordOf (set rs (k % 1024) i) x ≡ i
+note rs k i x l e = rw e (getD-set-same rs (k % 1024) i 0 (rw l (mod-lt k (lit< tt))))
+
+-- nothing is entered
+pub indexed-none : (fs : List Flow) (rs : List ℕ) (i : ℕ) → i ≡ min (length fs) 128 → rs ≡ replicate 1024 128 → Indexed fs i rs
+indexed-none fs rs i e q =
+    record {
+      cells = ap length q;
+      low = λ x. omega (arith, is x);
+      starts = λ x. rw (is x) (by-lt (length fs) 128
+          (λ h. rw (drop-of-length-le fs {i = 128} (omega arith), drop-of-length-le fs {i = i} (omega arith)))
+          (λ h. let z : i ≡ 128 = omega arith in rw z));
+    }
+  where
+    is : (x : ℕ) → recordOf rs x ≡ 128
+    is x = ap (λ (ks : List ℕ). getD ks (x % 1024) 0) q ∙ getD-replicate 1024 (x % 1024) 128 0 (mod-lt x (lit< tt))
+
+-- record k is entered, before those after it
+pub indexed-next : (fs : List Flow) (rs : List ℕ) (i k : ℕ) (f : Flow) → Indexed fs i rs → k + 1 ≡ i → k < 128 → k < length fs → f ≡ getD fs k noFlow
+    → Indexed fs k (set rs (f .number % 1024) k)
+indexed-next fs rs i k f a s h l e =
+    record {
+      cells = simp length-set (a .cells);
+      low = λ x. by-eq (x % 1024) (f .number % 1024)
+          (λ q. omega (arith, note rs (f .number) k x (a .cells) q))
+          (λ n. omega (arith, getD-set-other rs (f .number % 1024) (x % 1024) k 0 n, a .low x));
+      starts = λ x. by-eq (x % 1024) (f .number % 1024)
+          (λ q. rw (note rs (f .number) k x (a .cells) q))
+          (λ n. rw (getD-set-other rs (f .number % 1024) (x % 1024) k 0 n)
+          (a .starts x ∙ ap (λ (j : ℕ). found (drop j fs) x) (sym s) ∙ sym (found-next fs x k l f e (λ q. n (ap (λ (y : ℕ). y % 1024) (sym q))))));
+    }
 
 -- ---- the grants of a flow: k of them before record i
 

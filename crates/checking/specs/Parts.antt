@@ -1,14 +1,18 @@
 -- What the code's own parts answer: a flow looked up, and the tests that look at one grant after another. Assumes nothing.
-use mathlib.Core.Bool.{Bool}
+use mathlib.Core.Path.{_≡_}
+use mathlib.Core.Bool.{Bool, _&&_}
 use mathlib.Core.List.{List, []}
-use Prim.Native.Nat.{ℕ, _+_}
-use lib.Dec.{leb}
+use Prim.Native.Nat.{ℕ, _+_, _%_, _≤_}
+use lib.Dec.{leb, eqb}
+use lib.ListN.{length, getD, drop}
 use Rattle.fields.specs.declared.flow.Flow.{Flow}
 use Rattle.refusals.specs.declared.Refusal.{Refusal}
-use Rattle.refusals.specs.declared.Refusal.the-variants.{UnknownFlow, Timing, Overlap, PastCycle}
+use Rattle.refusals.specs.declared.Refusal.the-variants.{OtherCycle, UnknownFlow, Timing, Overlap, PastCycle}
 use Rattle.refusals.specs.declared.Checked.{Checked}
-use Rattle.refusals.specs.Tests.{lowest, against, after}
+use Rattle.refusals.specs.Tests.{unless, lowest, against, after}
+use Rattle.lists.specs.declared.facts.Facts.{Facts}
 use Rattle.tables.specs.declared.packed.Grant.{Grant}
+use Rattle.tables.specs.Tables.{cycleOf, frameOf}
 use Rattle.checking.specs.declared.flows.Found.{Found}
 use Rattle.checking.specs.declared.grants.Test.{Test}
 use Rattle.checking.specs.declared.grants.Test.the-variants.{Listed, Timely, Clears, Ends}
@@ -17,6 +21,20 @@ use Rattle.law.specs.Check.{known, look, slots, listed, timely, clears}
 -- the flow of that number, and whether the list has it
 abbrev pub found : List Flow → ℕ → Found
 found fs x = record { known = known fs x; flow = look fs x }
+
+-- the list record, counted from 0, that is noted for a number: numbers are below 1,024
+abbrev pub recordOf : List ℕ → ℕ → ℕ
+recordOf rs x = getD rs (x % 1024) 0
+
+-- what is noted for a number, once the first 128 records have been entered from record i on: a record from which on a search finds it as from i
+pub record Indexed (fs : List Flow) (i : ℕ) (rs : List ℕ) : Type 0 where
+  pub cells : length rs ≡ 1024
+  pub low : (x : ℕ) → recordOf rs x ≤ 128
+  pub starts : (x : ℕ) → found (drop (recordOf rs x) fs) x ≡ found (drop i fs) x
+
+-- test 13 of a table, by the facts of its list
+abbrev pub belongs : Facts → List ℕ → Checked
+belongs facts t = unless (eqb (cycleOf t) (facts .cycle) && eqb (frameOf t) (facts .frame)) OtherCycle
 
 -- what test 14, 16, 17 or 18 asks of a grant, which sees those before it with the nearest first
 abbrev pub passes : Test → List Flow → List Grant → Grant → Bool

@@ -2,6 +2,7 @@
 ghost use mathlib.Core.Path.{_≡_};
 ghost use lib.ListN.{length};
 ghost use Rattle.lists.specs.Lists.{flowsOf};
+ghost use Rattle.lists.specs.Facts.{cycle as cycleOf};
 ghost use Rattle.tables.specs.Tables.{grantsOf};
 ghost use Rattle.law.specs.Check.{to, test15};
 use refusals::Checked;
@@ -22,10 +23,10 @@ fn grants_to(table: &[u8], number: u16) -> usize
 }
 
 // 15: wrong number of grants, at the first list record that has it.
-pub fn test_15(list: &[u8], table: &[u8]) -> Checked
+pub fn test_15(list: &[u8], cycle: u16, table: &[u8]) -> Checked
+    requires { ⌜ cycle ≡ cycleOf (flowsOf (now list)) ⌝ }
     ensures { λ r. ⌜ r ≡ test15 (flowsOf (now (list .entry))) (grantsOf (now (table .entry))) ⌝ }
 {
-    let cycle = lists::facts_of(list).cycle;
     let n = lists::count(list);
     for i in 0..n {
         let f = lists::flow_at(list, i);

@@ -5,7 +5,7 @@ ghost use Rattle.refusals.proofs.Walks.{before};
 ghost use Rattle.lists.specs.Lists.{flowsOf};
 ghost use Rattle.tables.specs.Tables.{count, grantsOf};
 ghost use Rattle.law.specs.Law.{blank};
-ghost use Rattle.checking.specs.Parts.{passes, refusalOf, grantTest};
+ghost use Rattle.checking.specs.Parts.{Indexed, passes, refusalOf, grantTest};
 use crate::flows::find;
 use crate::slots::clears;
 use crate::slots::ends;
@@ -23,15 +23,16 @@ pub enum Test {
 }
 
 // Grant g, record i of the table, passes the test.
-fn passes(test: Test, list: &[u8], table: &[u8], i: usize, g: Grant) -> bool
+fn passes(test: Test, list: &[u8], records: &[u8], table: &[u8], i: usize, g: Grant) -> bool
+    requires { ⌜ Indexed (flowsOf (now list)) 0 (now records) ⌝ }
     requires { ⌜ i ≤ count (now table) ⌝ }
     ensures { λ r. ⌜ r ≡ passes test (flowsOf (now (list .entry))) (before (grantsOf (now (table .entry))) blank i) g ⌝ }
 {
     match test {
-        Test::Listed => find(list, g.flow).known,
-        Test::Timely => timely(list, table, i, g),
-        Test::Clears => clears(list, table, i, g),
-        Test::Ends(cycle) => ends(list, cycle, g),
+        Test::Listed => find(list, records, g.flow).known,
+        Test::Timely => timely(list, records, table, i, g),
+        Test::Clears => clears(list, records, table, i, g),
+        Test::Ends(cycle) => ends(list, records, cycle, g),
     }
 }
 
@@ -48,13 +49,14 @@ fn refusal(test: Test, p: usize) -> Refusal
 }
 
 // Test 14, 16, 17 or 18: the first table record that does not pass it.
-pub fn grant_test(test: Test, list: &[u8], table: &[u8]) -> Checked
+pub fn grant_test(test: Test, list: &[u8], records: &[u8], table: &[u8]) -> Checked
+    requires { ⌜ Indexed (flowsOf (now list)) 0 (now records) ⌝ }
     ensures { λ r. ⌜ r ≡ grantTest test (flowsOf (now (list .entry))) (grantsOf (now (table .entry))) ⌝ }
 {
     let n = tables::count(table);
     for i in 0..n {
         let g = tables::grant_at(table, i);
-        if !passes(test, list, table, i, g) {
+        if !passes(test, list, records, table, i, g) {
             return Checked::Refused(refusal(test, i + 1));
         }
     }

@@ -6,6 +6,7 @@ ghost use Rattle.lists.specs.Lists.{flowsOf};
 ghost use Rattle.tables.specs.Tables.{count, grantsOf};
 ghost use Rattle.law.specs.Check.{nominal, last, steps, timely};
 ghost use Rattle.law.specs.Law.{blank};
+ghost use Rattle.checking.specs.Parts.{Indexed};
 use crate::flows::find;
 use tables::Grant;
 
@@ -37,11 +38,12 @@ fn steps(table: &[u8], i: usize, g: Grant, interval: u16) -> bool
 }
 
 // Grant g, record i of the table, is late by no more than its jitter and its start, and steps from the flow's last one.
-pub fn timely(list: &[u8], table: &[u8], i: usize, g: Grant) -> bool
+pub fn timely(list: &[u8], records: &[u8], table: &[u8], i: usize, g: Grant) -> bool
+    requires { ⌜ Indexed (flowsOf (now list)) 0 (now records) ⌝ }
     requires { ⌜ i ≤ count (now table) ⌝ }
     ensures { λ r. ⌜ r ≡ timely 0 (flowsOf (now (list .entry))) (before (grantsOf (now (table .entry))) blank i) g ⌝ }
 {
-    let f = find(list, g.flow).flow;
+    let f = find(list, records, g.flow).flow;
     if f.jitter < g.late {
         return false;
     }

@@ -1,4 +1,4 @@
--- `law::counts::test_15` meets its contract.
+-- `checking::counts::test_15` meets its contract.
 -- Assumes nothing.
 use mathlib.Core.Path.{_≡_, sym, ap, _∙_}
 use Prim.Native.Nat.{_-_, _≤_, _<_}
@@ -10,9 +10,8 @@ use borrow.Author.Needs.{needs}
 use Rattle.fields.specs.Flows.{noFlow}
 use Rattle.refusals.specs.declared.Refusal.the-variants.{GrantCount}
 use Rattle.refusals.proofs.Walks.{walk, walk-alone, walk-next, walk-here, walk-end}
-use Rattle.lists.specs.declared.facts.Facts.{Facts}
 use Rattle.lists.specs.Lists.{flowsOf}
-use Rattle.lists.specs.Facts.{cycle, factsOf}
+use Rattle.lists.specs.Facts.{cycle}
 use Rattle.lists.proofs.Records.{length-flows, flow-is}
 use Rattle.tables.specs.Tables.{grantsOf}
 use Rattle.law.specs.Check.{counted, test15}
@@ -21,13 +20,10 @@ use Rattle.checking.proofs.counts.test_15.Statement.{statement}
 use Rattle.checking.proofs.counts.test_15.Tie as tie
 
 abbrev Inv-loop : tie.InvT-loop
-Inv-loop list table cycle n i₀ i = (i ≤ n) × (walk GrantCount (λ _ f. counted (flowsOf list) (grantsOf table) f) (flowsOf list) noFlow i ≡ test15 (flowsOf list) (grantsOf table))
+Inv-loop list cycle table n i₀ i = (i ≤ n) × (walk GrantCount (λ _ f. counted (flowsOf list) (grantsOf table) f) (flowsOf list) noFlow i ≡ test15 (flowsOf list) (grantsOf table))
 
 abbrev μ-loop : tie.MeasureT-loop
-μ-loop list table cycle n i₀ i = n - i
-
-facts-of-requires : tie.Need-facts-of-requires Inv-loop μ-loop
-facts-of-requires c κs = search needs
+μ-loop list cycle table n i₀ i = n - i
 
 count-requires : tie.Need-count-requires Inv-loop μ-loop
 count-requires c κs = search needs
@@ -35,7 +31,7 @@ count-requires c κs = search needs
 loop-holds : tie.Need-loop-holds Inv-loop μ-loop
 unfolding test15
 loop-holds c =
-    let a = c .before .before .before .before .args in
+    let a = c .before .before .before .args in
     (omega arith, walk-alone GrantCount (counted (flowsOf (a .list .now)) (grantsOf (a .table .now))) (flowsOf (a .list .now)) noFlow)
 
 flow-at-requires : tie.Need-flow-at-requires Inv-loop μ-loop
@@ -50,24 +46,23 @@ times-requires c κs = search needs
 cast-if1 : tie.Need-cast-if1 Inv-loop μ-loop
 cast-if1 c = search needs
 
-add-t12 : tie.Need-add-t12 Inv-loop μ-loop
-add-t12 c = search needs
+add-t11 : tie.Need-add-t11 Inv-loop μ-loop
+add-t11 c = search needs
 
 -- record i has a flow, and the two numbers are compared for it
-inside : (c : tie.After-flow-at Inv-loop μ-loop) → c .before .before .loop .i < length (flowsOf (c .before .before .before .before .before .before .before .args .list .now))
-inside c = omega (arith, c .before .before .before .count .ensures, length-flows (c .before .before .before .before .before .before .before .args .list .now))
+inside : (c : tie.After-flow-at Inv-loop μ-loop) → c .before .before .loop .i < length (flowsOf (c .before .before .before .before .before .before .args .list .now))
+inside c = omega (arith, c .before .before .before .count .ensures, length-flows (c .before .before .before .before .before .before .args .list .now))
 
 judged : (c : tie.After-times Inv-loop μ-loop)
     → let g = c .before .before in
-    let a = g .before .before .before .before .before .before .before .args in
+    let a = g .before .before .before .before .before .before .args in
     eqb (c .before .grants-to .result) (c .times .result) ≡ counted (flowsOf (a .list .now)) (grantsOf (a .table .now)) (getD (flowsOf (a .list .now)) (g .before .before .loop .i) noFlow)
-unfolding factsOf
 judged c =
     let g = c .before .before in
-    let k = g .before .before .before .before in
-    let a = k .before .before .before .args in
-    counted-is (flowsOf (a .list .now)) (grantsOf (a .table .now)) (g .flow-at .result) (c .before .grants-to .result) (k .facts-of .result .cycle) (c .times .result)
-    (c .before .grants-to .ensures) (ap (λ (x : Facts). x .cycle) (k .facts-of .ensures)) (c .times .ensures)
+    let s = g .before .before .before .before .before .before in
+    let a = s .args in
+    counted-is (flowsOf (a .list .now)) (grantsOf (a .table .now)) (g .flow-at .result) (c .before .grants-to .result) (a .cycle) (c .times .result)
+    (c .before .grants-to .ensures) (s .pre) (c .times .ensures)
     ∙ ap (counted (flowsOf (a .list .now)) (grantsOf (a .table .now))) (flow-is (a .list .now) (g .before .before .loop .i) (g .flow-at .result) (omega (arith, g .before .before .before .count .ensures)) (g .flow-at .ensures))
 
 returns : tie.Need-returns Inv-loop μ-loop
@@ -75,7 +70,7 @@ returns c =
     let t = c .before in
     let g = t .before .before in
     let v = g .before .before .loop in
-    let a = g .before .before .before .before .before .before .before .args in
+    let a = g .before .before .before .before .before .before .args in
     walk-here GrantCount (λ _ f. counted (flowsOf (a .list .now)) (grantsOf (a .table .now)) f) (flowsOf (a .list .now)) noFlow (v .i) (inside g) (eqb (t .before .grants-to .result) (t .times .result)) (judged t) (ne-eqb _ _ (c .if1 .taken))
     ∙ v .inv .1
 
@@ -90,7 +85,7 @@ loop-again c =
     let t = c .before in
     let g = t .before .before in
     let v = g .before .before .loop in
-    let a = g .before .before .before .before .before .before .before .args in (
+    let a = g .before .before .before .before .before .before .args in (
       omega arith,
       sym (walk-next GrantCount (λ _ f. counted (flowsOf (a .list .now)) (grantsOf (a .table .now)) f) (flowsOf (a .list .now)) noFlow (v .i) (inside g) (eqb (t .before .grants-to .result) (t .times .result)) (judged t) (eq-eqb _ _ (c .if1 .left)))
           ∙ v .inv .1,
@@ -100,7 +95,7 @@ returns-2 : tie.Need-returns-2 Inv-loop μ-loop
 returns-2 c =
     let v = c .before .loop in
     let n = c .before .before in
-    let a = n .before .before .before .before .args in
+    let a = n .before .before .before .args in
     walk-end GrantCount (λ _ f. counted (flowsOf (a .list .now)) (grantsOf (a .table .now)) f) (flowsOf (a .list .now)) noFlow (v .i) (omega (arith, n .count .ensures, length-flows (a .list .now)))
     ∙ v .inv .1
 
@@ -110,14 +105,13 @@ test-15-spec =
     (tie.spec
     Inv-loop
     μ-loop
-    facts-of-requires
     count-requires
     loop-holds
     flow-at-requires
     grants-to-requires
     times-requires
     cast-if1
-    add-t12
+    add-t11
     returns
     add-i
     loop-less

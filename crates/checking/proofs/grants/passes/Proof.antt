@@ -1,4 +1,4 @@
--- `law::grants::passes` meets its contract.
+-- `checking::grants::passes` meets its contract.
 -- Assumes nothing.
 use mathlib.Core.Path.{_≡_, ap, _∙_}
 use mathlib.Core.List.{List}

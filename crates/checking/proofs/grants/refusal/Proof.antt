@@ -1,4 +1,4 @@
--- `law::grants::refusal` meets its contract.
+-- `checking::grants::refusal` meets its contract.
 -- Assumes nothing.
 use mathlib.Core.Path.{sym, ap}
 use borrow.Author.Needs.{needs}

@@ -1,12 +1,11 @@
--- `law::tests::tests_14_to_18` meets its contract.
+-- `checking::tests::tests_14_to_18` meets its contract.
 -- Assumes nothing.
 use mathlib.Core.Path.{_≡_, sym, ap, _∙_}
+use Prim.Native.Nat.{ℕ}
 use borrow.Author.Needs.{needs}
 use Rattle.refusals.specs.declared.Checked.the-variants.{Passed}
 use Rattle.refusals.proofs.Chains.{first-refuses, first-passes}
-use Rattle.lists.specs.declared.facts.Facts.{Facts}
 use Rattle.lists.specs.Lists.{flowsOf}
-use Rattle.lists.specs.Facts.{factsOf}
 use Rattle.tables.specs.Tables.{grantsOf}
 use Rattle.checking.specs.declared.grants.Test.the-variants.{Ends}
 use Rattle.law.specs.Check.{test14, test15, test16, test17, tests14to18}
@@ -29,7 +28,7 @@ enum-told : tie.Need-enum-told
 enum-told c = search needs
 
 passed14 : (c : tie.After-enum-told)
-    → let a = c .before .before .before .before .before .args in
+    → let a = c .before .before .before .before .before .before .args in
     test14 (flowsOf (a .list .now)) (grantsOf (a .table .now)) ≡ Passed
 passed14 c = flow-test _ _ ∙ sym (c .before .before .grant-test .ensures) ∙ c .enum-told .given .1
 
@@ -49,7 +48,7 @@ enum-told-2 : tie.Need-enum-told-2
 enum-told-2 c = search needs
 
 passed15 : (c : tie.After-enum-told2)
-    → let a = c .before .before .before .before .before .before .before .before .args in
+    → let a = c .before .before .before .before .before .before .before .before .before .args in
     test15 (flowsOf (a .list .now)) (grantsOf (a .table .now)) ≡ Passed
 passed15 c = sym (c .before .before .test-15 .ensures) ∙ c .enum-told2 .given .1
 
@@ -71,7 +70,7 @@ enum-told-3 : tie.Need-enum-told-3
 enum-told-3 c = search needs
 
 passed16 : (c : tie.After-enum-told3)
-    → let a = c .before .before .before .before .before .before .before .before .before .before .before .args in
+    → let a = c .before .before .before .before .before .before .before .before .before .before .before .before .args in
     test16 (flowsOf (a .list .now)) (grantsOf (a .table .now)) ≡ Passed
 passed16 c = time-test _ _ ∙ sym (c .before .before .grant-test2 .ensures) ∙ c .enum-told3 .given .1
 
@@ -95,24 +94,22 @@ enum-told-4 : tie.Need-enum-told-4
 enum-told-4 c = search needs
 
 passed17 : (c : tie.After-enum-told4)
-    → let a = c .before .before .before .before .before .before .before .before .before .before .before .before .before .before .args in
+    → let a = c .before .before .before .before .before .before .before .before .before .before .before .before .before .before .before .args in
     test17 (flowsOf (a .list .now)) (grantsOf (a .table .now)) ≡ Passed
 passed17 c = overlap-test _ _ ∙ sym (c .before .before .grant-test3 .ensures) ∙ c .enum-told4 .given .1
-
-facts-of-requires : tie.Need-facts-of-requires
-facts-of-requires c κs = search needs
 
 grant-test-requires-4 : tie.Need-grant-test-requires-4
 grant-test-requires-4 c κs = search needs
 
 returns-5 : tie.Need-returns-5
-unfolding tests14to18 factsOf
+unfolding tests14to18
 returns-5 c =
-    let r = c .before .before in
+    let r = c .before in
     let q = r .before .before .before in
     let p = q .before .before .before in
-    let a = p .before .before .before .before .before .before .before .before .args in
-    let last = c .grant-test4 .ensures ∙ ap (λ (x : Facts). grantTest (Ends (x .cycle)) (flowsOf (a .list .now)) (grantsOf (a .table .now))) (c .before .facts-of .ensures) ∙ sym (end-test (flowsOf (a .list .now)) (grantsOf (a .table .now))) in
+    let s = p .before .before .before .before .before .before .before .before .before in
+    let a = s .args in
+    let last = c .grant-test4 .ensures ∙ ap (λ (x : ℕ). grantTest (Ends x) (flowsOf (a .list .now)) (grantsOf (a .table .now))) (s .pre .1) ∙ sym (end-test (flowsOf (a .list .now)) (grantsOf (a .table .now))) in
     first-passes _ _ _ (passed14 (p .before .before .before)) (first-passes _ _ _ (passed15 p) (first-passes _ _ _ (passed16 q) (first-passes _ _ _ (passed17 r) last)))
 
 pub tests-14-to-18-spec : {M : Type 1} → statement M
@@ -135,6 +132,5 @@ tests-14-to-18-spec =
     enum-known-slots
     returns-4
     enum-told-4
-    facts-of-requires
     grant-test-requires-4
     returns-5)
