@@ -7,16 +7,16 @@ use lib.Dec.{leb, eqb}
 use lib.ListN.{length, getD}
 use borrow.Author.Tests.{eq-eqb, ne-eqb}
 use Rattle.fields.specs.declared.flow.Flow.{Flow}
-use Rattle.refusals.specs.declared.Refusal.the-variants.{UnknownFlow, PastCycle, OtherCycle}
+use Rattle.refusals.specs.declared.Refusal.the-variants.{UnknownFlow, Timing, PastCycle, OtherCycle}
 use Rattle.refusals.specs.declared.Checked.the-variants.{Passed, Refused}
 use Rattle.refusals.specs.Tests.{after}
-use Rattle.refusals.proofs.Walks.{before, walk-alone}
+use Rattle.refusals.proofs.Walks.{before, walk, walk-alone}
 use Rattle.lists.specs.declared.facts.Facts.{Facts}
 use Rattle.lists.specs.Facts.{cycle, frame, grantsOf, factsOf}
 use Rattle.tables.specs.declared.packed.Grant.{Grant}
 use Rattle.tables.specs.Tables.{cycleOf, frameOf}
-use Rattle.checking.specs.declared.grants.Test.the-variants.{Listed, Timely, Clears, Ends}
-use Rattle.law.specs.Check.{slots, to, test13, listed, test14, counted, test16, clears, test17, ends, test18}
+use Rattle.checking.specs.declared.grants.Test.the-variants.{Listed, Clears, Ends}
+use Rattle.law.specs.Check.{slots, to, test13, listed, test14, counted, timely, test16, clears, test17, ends, test18}
 use Rattle.law.specs.Law.{blank}
 use Rattle.checking.specs.Parts.{belongs, grantTest}
 
@@ -36,13 +36,13 @@ pub belongs-is : (fs : List Flow) (t : List ℕ) (facts : Facts) → facts ≡ f
 unfolding test13 factsOf
 belongs-is fs t facts e = rw e
 
--- tests 14, 16, 17 and 18 as the code has them
+-- tests 14 and 16 to 18 as the code has them
 module _ (fs : List Flow) (gs : List Grant) where
   pub flow-test : test14 fs gs ≡ grantTest Listed fs gs
   unfolding test14
   flow-test = sym (walk-alone UnknownFlow (listed fs) gs blank)
 
-  pub time-test : test16 fs gs ≡ grantTest Timely fs gs
+  pub time-test : walk Timing (timely 0 fs) gs blank 0 ≡ test16 fs gs
   unfolding test16
   time-test = refl
 

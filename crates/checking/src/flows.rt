@@ -15,6 +15,12 @@ pub struct Found {
 // The flows of the longest list.
 const FLOWS: usize = 128;
 
+// The numbers that a flow can have.
+pub const NUMBERS: usize = 1024;
+
+// A cell for each flow of the longest list, and one more for what else there is.
+pub const CELLS: usize = 129;
+
 // Where the record of a number is noted; numbers are below 1,024.
 fn cell(number: u16) -> usize
     ensures { λ r. ⌜ (r ≡ number % 1024) × (r < 1024) ⌝ }

@@ -7,9 +7,12 @@ ghost use Rattle.law.specs.Check.{tests14to18, lawTests, check};
 ghost use Rattle.checking.specs.Parts.{Indexed};
 use crate::belongs::test_13;
 use crate::counts::test_15;
+use crate::flows::CELLS;
+use crate::flows::NUMBERS;
 use crate::flows::index;
 use crate::grants::Test;
 use crate::grants::grant_test;
+use crate::timing::test_16;
 use refusals::Checked;
 
 // Tests 14 to 18 of a table against its list.
@@ -17,15 +20,16 @@ fn tests_14_to_18(list: &[u8], records: &[u8], cycle: u16, table: &[u8]) -> Chec
     requires { ⌜ Indexed (flowsOf (now list)) 0 (now records) × (cycle ≡ cycleOf (flowsOf (now list))) ⌝ }
     ensures { λ r. ⌜ r ≡ tests14to18 (flowsOf (now (list .entry))) (grantsOf (now (table .entry))) ⌝ }
 {
+    let mut cells = [0u16; CELLS];
     let flows = grant_test(Test::Listed, list, records, table);
     if let Checked::Refused(r) = flows {
         return Checked::Refused(r);
     }
-    let counts = test_15(list, cycle, table);
+    let counts = test_15(list, records, cycle, table, &mut cells);
     if let Checked::Refused(r) = counts {
         return Checked::Refused(r);
     }
-    let times = grant_test(Test::Timely, list, records, table);
+    let times = test_16(list, records, table, &mut cells);
     if let Checked::Refused(r) = times {
         return Checked::Refused(r);
     }
@@ -45,7 +49,7 @@ pub fn law_tests(list: &[u8], table: &[u8]) -> Checked
     if let Checked::Refused(r) = whole {
         return Checked::Refused(r);
     }
-    let mut records = [128u8; 1024];
+    let mut records = [128u8; NUMBERS];
     index(list, &mut records);
     tests_14_to_18(list, &records, facts.cycle, table)
 }
