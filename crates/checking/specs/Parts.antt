@@ -23,17 +23,17 @@ use Rattle.law.specs.Check.{known, look, slots, to, listed, clears}
 abbrev pub found : List Flow → ℕ → Found
 found fs x = record { known = known fs x; flow = look fs x }
 
--- the list record, counted from 0, that is noted for a number: numbers are below 1,024
+-- the list record, counted from 0, that is noted for a number; numbers are below 1,024
 abbrev pub recordOf : List ℕ → ℕ → ℕ
 recordOf rs x = getD rs (x % 1024) 0
 
--- what is noted for a number, once the first 128 records have been entered from record i on: a record from which on a search finds it as from i
+-- the records from i on are noted: a search that starts at the one noted for a number finds what a search from i on finds
 pub record Indexed (fs : List Flow) (i : ℕ) (rs : List ℕ) : Type 0 where
-  pub cells : length rs ≡ 1024
+  pub entries : length rs ≡ 1024
   pub low : (x : ℕ) → recordOf rs x ≤ 128
   pub starts : (x : ℕ) → found (drop (recordOf rs x) fs) x ≡ found (drop i fs) x
 
--- the cell of the list record noted for a number holds how many grants its flow has, if the record has the number
+-- a flow's cell says how many grants it has, if the list record that is noted for its number has it
 abbrev pub Counts : List ℕ → List ℕ → List Grant → List ℕ → Type 0
 Counts l rs gs cs = (x : ℕ) → flowAt l (recordOf rs x) .number ≡ x → getD cs (recordOf rs x) 0 ≡ length (to x gs)
 

@@ -25,7 +25,7 @@ fn grants_to(table: &[u8], number: u16) -> usize
     k
 }
 
-// Counts the grants of each flow whose number is that of the list record noted for it, in that record's cell.
+// Counts each flow's grants in its cell, if the list record that is noted for its number has it.
 fn count_grants(list: &[u8], records: &[u8], table: &[u8], cells: &mut [u16])
     requires { ⌜ Indexed (flowsOf (now list)) 0 (now records) × (length (now cells) ≡ 129) ⌝ }
     ensures { λ _. ⌜ Counts (now (list .entry)) (now (records .entry)) (grantsOf (now (table .entry))) (now (cells .exit)) ⌝ }
@@ -41,7 +41,7 @@ fn count_grants(list: &[u8], records: &[u8], table: &[u8], cells: &mut [u16])
     }
 }
 
-// How many grants of the table are those of the flow of that number: as its cell says, or counted where it has none.
+// How many grants the flow of that number has, as its cell says; a flow behind the longest list's records has none and is counted by itself.
 fn grants_of(list: &[u8], records: &[u8], table: &[u8], cells: &[u16], number: u16) -> usize
     requires { ⌜ Indexed (flowsOf (now list)) 0 (now records) × (length (now cells) ≡ 129) ⌝ }
     requires { ⌜ Counts (now list) (now records) (grantsOf (now table)) (now cells) ⌝ }

@@ -1,4 +1,4 @@
-// The flow of a grant, looked up in the list.
+// The flow of a grant, looked up in the list: for each number a list record is noted, and a search starts there.
 ghost use mathlib.Core.Path.{_≡_};
 ghost use Prim.Native.Nat.{_%_, _≤_, _<_, min};
 ghost use lib.ListN.{length, replicate};
@@ -15,45 +15,45 @@ pub struct Found {
 // The flows of the longest list.
 const FLOWS: usize = 128;
 
-// The numbers that a flow can have.
+// Numbers are below this one.
 pub const NUMBERS: usize = 1024;
 
-// A cell for each flow of the longest list, and one more for what else there is.
-pub const CELLS: usize = 129;
+// What is noted for a number that no flow of the longest list has.
+pub const ABSENT: u8 = 128;
 
-// Where the record of a number is noted; numbers are below 1,024.
-fn cell(number: u16) -> usize
+// Where the record of a number is noted.
+fn entry(number: u16) -> usize
     ensures { λ r. ⌜ (r ≡ number % 1024) × (r < 1024) ⌝ }
 {
     (number % 1024) as usize
 }
 
-// The first of n records that is not entered.
-fn entered(n: usize) -> usize
+// How many of n records are noted: no more than the longest list has.
+fn noted(n: usize) -> usize
     ensures { λ r. ⌜ r ≡ min n 128 ⌝ }
 {
     if n < FLOWS { n } else { FLOWS }
 }
 
-// Enters the list's records, up to 128 of them: for each number the first that has it.
+// Notes for each number the first list record that has it.
 pub fn index(list: &[u8], records: &mut [u8])
     requires { ⌜ now records ≡ replicate 1024 128 ⌝ }
     ensures { λ _. ⌜ Indexed (flowsOf (now (list .entry))) 0 (now (records .exit)) ⌝ }
 {
-    let mut i = entered(lists::count(list));
+    let mut i = noted(lists::count(list));
     while 0 < i {
         i -= 1;
-        let k = cell(lists::flow_at(list, i).number);
+        let k = entry(lists::flow_at(list, i).number);
         records[k] = i as u8;
     }
 }
 
-// The list record, counted from 0, at which the search for the number starts; 128 where none of the first 128 has it.
+// The list record, counted from 0, that is noted for the number.
 pub fn record_of(records: &[u8], number: u16) -> usize
     requires { ⌜ length (now records) ≡ 1024 ⌝ }
     ensures { λ r. ⌜ r ≡ recordOf (now (records .entry)) number ⌝ }
 {
-    let k = cell(number);
+    let k = entry(number);
     records[k] as usize
 }
 

@@ -6,8 +6,9 @@ ghost use Rattle.tables.specs.Tables.{grantsOf};
 ghost use Rattle.law.specs.Check.{tests14to18, lawTests, check};
 ghost use Rattle.checking.specs.Parts.{Indexed};
 use crate::belongs::test_13;
+use crate::cells::CELLS;
 use crate::counts::test_15;
-use crate::flows::CELLS;
+use crate::flows::ABSENT;
 use crate::flows::NUMBERS;
 use crate::flows::index;
 use crate::grants::Test;
@@ -49,7 +50,7 @@ pub fn law_tests(list: &[u8], table: &[u8]) -> Checked
     if let Checked::Refused(r) = whole {
         return Checked::Refused(r);
     }
-    let mut records = [128u8; NUMBERS];
+    let mut records = [ABSENT; NUMBERS];
     index(list, &mut records);
     tests_14_to_18(list, &records, facts.cycle, table)
 }

@@ -1,4 +1,4 @@
-// Test 16 of a grant: how late it is, and how its nominal time steps from the flow's last one.
+// Test 16: how late a grant is, and how its nominal time steps from the flow's last one.
 ghost use mathlib.Core.Path.{_≡_};
 ghost use Prim.Native.Nat.{_≤_};
 ghost use lib.ListN.{length};
@@ -58,7 +58,7 @@ fn timely(list: &[u8], records: &[u8], table: &[u8], i: usize, g: Grant) -> bool
     steps(table, i, g, f.interval)
 }
 
-// 16: the first table record that is not timely. A flow's cell holds the number of grants up to its last one, behind which there is none of it.
+// 16: the first table record that is not timely. A flow's cell holds the place of its last grant so far, at which the walk back starts.
 pub fn test_16(list: &[u8], records: &[u8], table: &[u8], cells: &mut [u16]) -> Checked
     requires { ⌜ Indexed (flowsOf (now list)) 0 (now records) × (length (now cells) ≡ 129) ⌝ }
     ensures { λ r. ⌜ r ≡ test16 (flowsOf (now (list .entry))) (grantsOf (now (table .entry))) ⌝ }

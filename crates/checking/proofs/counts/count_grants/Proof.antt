@@ -2,17 +2,17 @@
 -- Assumes nothing.
 use mathlib.Core.Path.{_≡_, sym, ap, _∙_}
 use mathlib.Core.Logic.{⊎-elim}
-use Prim.Native.Nat.{ℕ, _+_, _-_, _≤_, _<_}
+use Prim.Native.Nat.{ℕ, _-_, _≤_, _<_}
 use native.Mathlib.Omega.{arith}
-use lib.ListN.{length, getD, length-set}
+use lib.ListN.{length, length-set}
 use borrow.Author.Needs.{needs}
 use Rattle.fields.specs.declared.flow.Flow.{Flow}
-use Rattle.lists.specs.Lists.{flowAt, flowsOf}
+use Rattle.lists.specs.Lists.{flowAt}
 use Rattle.tables.specs.Tables.{grantsOf}
 use Rattle.tables.proofs.Records.{length-grants, grant-is}
 use Rattle.law.specs.Law.{blank}
 use Rattle.checking.specs.Parts.{recordOf}
-use Rattle.checking.proofs.Turns.{count-lt, CountsAt, counts-none, counts-own, counts-other, counts-end}
+use Rattle.checking.proofs.Notes.{count-lt, CountsAt, counts-none, counts-own, counts-other, counts-end}
 use Rattle.checking.proofs.counts.count_grants.Statement.{statement}
 use Rattle.checking.proofs.counts.count_grants.Tie as tie
 
@@ -45,7 +45,7 @@ grant-at-requires : tie.Need-grant-at-requires Inv-loop μ-loop
 grant-at-requires c κs = search needs
 
 record-of-requires : tie.Need-record-of-requires Inv-loop μ-loop
-record-of-requires c κs = start (c .before .before .before) .pre .0 .cells
+record-of-requires c κs = start (c .before .before .before) .pre .0 .entries
 
 flow-at-requires : tie.Need-flow-at-requires Inv-loop μ-loop
 flow-at-requires c κs = search needs

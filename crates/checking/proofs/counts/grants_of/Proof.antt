@@ -6,7 +6,6 @@ use Prim.Native.Nat.{_<_}
 use lib.ListN.{length}
 use borrow.Author.Needs.{needs}
 use Rattle.fields.specs.declared.flow.Flow.{Flow}
-use Rattle.lists.specs.Lists.{flowAt}
 use Rattle.checking.proofs.counts.grants_of.Statement.{statement}
 use Rattle.checking.proofs.counts.grants_of.Tie as tie
 

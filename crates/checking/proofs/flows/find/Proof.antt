@@ -23,7 +23,7 @@ count-requires : tie.Need-count-requires Inv-loop μ-loop
 count-requires c κs = search needs
 
 record-of-requires : tie.Need-record-of-requires Inv-loop μ-loop
-record-of-requires c κs = c .before .before .before .pre .cells
+record-of-requires c κs = c .before .before .before .pre .entries
 
 loop-holds : tie.Need-loop-holds Inv-loop μ-loop
 loop-holds c =

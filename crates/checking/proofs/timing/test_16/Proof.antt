@@ -13,8 +13,7 @@ use Rattle.tables.specs.Tables.{grantsOf}
 use Rattle.tables.proofs.Records.{length-grants, grant-is}
 use Rattle.law.specs.Check.{timely, test16}
 use Rattle.law.specs.Law.{blank}
-use Rattle.checking.specs.Parts.{recordOf}
-use Rattle.checking.proofs.Turns.{count-lt, Latest, latest-none, latest-next, timely-by}
+use Rattle.checking.proofs.Notes.{count-lt, Latest, latest-none, latest-next, timely-by}
 use Rattle.checking.proofs.Verdicts.{time-test}
 use Rattle.checking.proofs.timing.test_16.Statement.{statement}
 use Rattle.checking.proofs.timing.test_16.Tie as tie
@@ -57,7 +56,7 @@ read c =
     (omega (arith, c .before .before .before .count .ensures)) (c .grant-at .ensures)
 
 record-of-requires : tie.Need-record-of-requires Inv-loop μ-loop
-record-of-requires c κs = start (c .before .before .before) .pre .0 .cells
+record-of-requires c κs = start (c .before .before .before) .pre .0 .entries
 
 -- the table has the record, and its flow a cell, which says no more than i
 listed : (c : tie.After-record-of Inv-loop μ-loop)
