@@ -21,20 +21,35 @@ fn made(name: &[u8], answer: Written, room: &[u8]) {
     print::word(b"\n");
 }
 
+// Sheet to list.
+fn pack(input: &[u8], room: &mut [u8]) {
+    let answer = hub::list_from_sheet(input, room);
+    made(b"pack", answer, room);
+}
+
+// List to sheet.
+fn unpack(input: &[u8], room: &mut [u8]) {
+    let answer = hub::sheet_from_list(input, room);
+    made(b"write", answer, room);
+}
+
+// A plan.
+fn plan(input: &[u8], room: &mut [u8]) {
+    let answer = hub::plan(input, room);
+    made(b"plan", answer, room);
+}
+
 // Sheet to list (1), list to sheet (2) or plan (3).
 pub fn write(op: u8, input: &[u8], room: &mut [u8]) {
     if op == 1 {
-        let answer = hub::list_from_sheet(input, room);
-        made(b"pack", answer, room);
-        return;
+        pack(input, room);
+    } else {
+        if op == 2 {
+            unpack(input, room);
+        } else {
+            plan(input, room);
+        }
     }
-    if op == 2 {
-        let answer = hub::sheet_from_list(input, room);
-        made(b"write", answer, room);
-        return;
-    }
-    let answer = hub::plan(input, room);
-    made(b"plan", answer, room);
 }
 
 // Refusal and place.

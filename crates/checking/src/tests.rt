@@ -59,7 +59,7 @@ pub fn law_tests(list: &[u8], table: &[u8]) -> Checked
 pub fn check(list: &[u8], table: &[u8]) -> Checked
     ensures { λ r. ⌜ r ≡ check (now (list .entry)) (now (table .entry)) ⌝ }
 {
-    let first = lists::tests_1_to_7(list);
+    let first = accepting::tests_1_to_7(list);
     if let Checked::Refused(r) = first {
         return Checked::Refused(r);
     }

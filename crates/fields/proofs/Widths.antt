@@ -2,7 +2,7 @@
 use mathlib.Core.Path.{_≡_, refl}
 use mathlib.Core.Bool.{true, _&&_}
 use mathlib.Core.List.{List, [], _∷_}
-use Prim.Native.Nat.{ℕ, zero, suc, _*_, _≤_, zero-le}
+use Prim.Native.Nat.{ℕ, zero, suc, _*_, _≤_, _<_, zero-le}
 use lib.Dec.{leb, lit≤}
 use lib.ListN.{getD}
 use borrow.Author.Tests.{leb-true}
@@ -11,7 +11,7 @@ use Rattle.logic.proofs.Tests.{and-both}
 use Rattle.fields.specs.declared.kind.Kind.{Kind}
 use Rattle.fields.specs.declared.kind.Kind.the-variants.{ListHead, ListRecord, TableHead, TableRecord}
 use Rattle.fields.specs.Packed.{total, Narrow}
-use Rattle.fields.specs.Kinds.{widths, bytes}
+use Rattle.fields.specs.Kinds.{row, widths, bytes}
 
 -- a bound on each entry, by a test that computes
 each-le : (b : ℕ) (xs : List ℕ) → every (λ x. leb x b) xs ≡ true → (k : ℕ) → getD xs k 0 ≤ b
@@ -44,3 +44,16 @@ bytes-le ListHead = lit≤ tt
 bytes-le ListRecord = lit≤ tt
 bytes-le TableHead = lit≤ tt
 bytes-le TableRecord = lit≤ tt
+
+-- the table has a row for each kind
+pub row-there : (k : Kind) → row k < 4
+row-there ListHead = lit≤ tt
+row-there ListRecord = lit≤ tt
+row-there TableHead = lit≤ tt
+row-there TableRecord = lit≤ tt
+
+pub row-widths : (k : Kind) → getD (widths ListHead ∷ widths ListRecord ∷ widths TableHead ∷ widths TableRecord ∷ []) (row k) [] ≡ widths k
+row-widths ListHead = refl
+row-widths ListRecord = refl
+row-widths TableHead = refl
+row-widths TableRecord = refl

@@ -4,6 +4,13 @@ use mathlib.Core.List.{List, [], _∷_}
 use Rattle.fields.specs.declared.kind.Kind.{Kind}
 use Rattle.fields.specs.declared.kind.Kind.the-variants.{ListHead, ListRecord, TableHead, TableRecord}
 
+-- the place of a record's row in the code's table of widths
+abbrev pub row : Kind → ℕ
+row ListHead = 0
+row ListRecord = 1
+row TableHead = 2
+row TableRecord = 3
+
 -- the widths of a record's fields in bits, in order; a width of 0 is no field
 abbrev pub widths : Kind → List ℕ
 -- edition, kind, spare, count

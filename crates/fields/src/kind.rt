@@ -1,6 +1,6 @@
 // The kinds of records and the one table of their field widths.
 ghost use mathlib.Core.Path.{_≡_};
-ghost use Rattle.fields.specs.Kinds.{widths, bytes};
+ghost use Rattle.fields.specs.Kinds.{row, widths, bytes};
 
 pub enum Kind {
     ListHead,
@@ -18,20 +18,27 @@ const WIDTHS: [[u8; 6]; 4] = [
 ];
 
 impl Kind {
-    // The record's row of the table.
-    pub fn widths(self) -> [u8; 6]
-        ensures { λ r. ⌜ r ≡ widths self ⌝ }
+    // The place of the record's row in the table.
+    fn row(self) -> usize
+        ensures { λ r. ⌜ r ≡ row self ⌝ }
     {
         match self {
-            Kind::ListHead => WIDTHS[0],
-            Kind::ListRecord => WIDTHS[1],
-            Kind::TableHead => WIDTHS[2],
-            Kind::TableRecord => WIDTHS[3],
+            Kind::ListHead => 0,
+            Kind::ListRecord => 1,
+            Kind::TableHead => 2,
+            Kind::TableRecord => 3,
         }
     }
 
+    // The record's row of the table.
+    pub(crate) fn widths(self) -> [u8; 6]
+        ensures { λ r. ⌜ r ≡ widths self ⌝ }
+    {
+        WIDTHS[self.row()]
+    }
+
     // How many bytes the record takes.
-    pub fn bytes(self) -> usize
+    pub(crate) fn bytes(self) -> usize
         ensures { λ r. ⌜ r ≡ bytes self ⌝ }
     {
         match self {

@@ -1,17 +1,15 @@
 -- What one turn of each loop over a list's flows does. Assumes nothing.
 use mathlib.Core.Path.{_≡_, refl, sym, ap, _∙_}
-use mathlib.Core.Bool.{Bool, true, false, _&&_}
 use mathlib.Core.List.{List, [], _∷_}
-use Prim.Native.Nat.{ℕ, suc, _+_, _*_, _≤_, _<_, max, min}
+use Prim.Native.Nat.{ℕ, _+_, _*_, _≤_, _<_, max, min}
 use native.Mathlib.Nat.{mul-le-mul-left}
 use native.Mathlib.Numerals.{add-one}
 use native.Mathlib.Omega.{arith}
 use lib.ListN.{length, getD, drop, drop-of-length-le}
 use lib.Seq.{drop-cons}
-use Rattle.logic.specs.Lists.{sum, every}
+use Rattle.logic.specs.Lists.{sum}
 use Rattle.fields.specs.declared.flow.Flow.{Flow}
 use Rattle.fields.specs.Flows.{noFlow}
-use Rattle.refusals.proofs.Walks.{before}
 use Rattle.lists.specs.Facts.{cycle, least, frame}
 
 -- the smallest of i and the intervals is at most i
@@ -76,16 +74,3 @@ pub product-le : (a b : ℕ) → a < 65536 → b < 65536 → a * b ≤ 65535 * 6
 product-le a b h k =
     let p : a * b ≤ a * 65535 = mul-le-mul-left a (omega arith) in
     omega arith
-
--- ---- every earlier record
-
-module _ (ok : Flow → Bool) (fs : List Flow) (j k : ℕ) (e : suc k ≡ j) (f : Flow) (q : f ≡ getD fs k noFlow) where
-  opens : every ok (before fs noFlow j) ≡ ok f && every ok (before fs noFlow k)
-  unfolding every
-  opens = rw (← e, q, every)
-
-  pub every-next : ok f ≡ true → every ok (before fs noFlow j) ≡ every ok (before fs noFlow k)
-  every-next t = opens ∙ rw t
-
-  pub every-here : ok f ≡ false → every ok (before fs noFlow j) ≡ false
-  every-here t = opens ∙ rw t

@@ -1,5 +1,5 @@
 -- What the tests of a list answer, both ways. Assumes nothing.
-use mathlib.Core.Path.{_≡_, refl, sym, ap, _∙_}
+use mathlib.Core.Path.{_≡_, sym, ap, _∙_}
 use mathlib.Core.Bool.{Bool, true, _&&_}
 use mathlib.Core.List.{List}
 use Prim.Native.Nat.{ℕ, _/_, _≤_, _<_}
@@ -17,9 +17,7 @@ use Rattle.refusals.specs.Tests.{unless, _⟫_}
 use Rattle.refusals.proofs.Chains.{unless-no, unless-passed, chain-assoc}
 use Rattle.lists.specs.Lists.{headOf, count, place, flowsOf}
 use Rattle.lists.specs.Facts.{cycle, frame, grants}
-use Rattle.lists.specs.Tests.{test1, test2, test3, test1exact, test4, newNumber, test5, relatedInterval, test6, test7, tests1to4, tests1to7}
-use Rattle.lists.specs.declared.pairs.Pair.the-variants.{Number, Interval}
-use Rattle.lists.specs.Parts.{pairTest}
+use Rattle.lists.specs.Tests.{test1, test2, test3, test1exact, test4, test7, tests1to4}
 
 -- a test that would say what is not so fails
 fails : (t : Bool) (r : Refusal) (P : Type 0) → (t ≡ true → P) → (P → ⊥) → unless t r ≡ Refused r
@@ -43,10 +41,6 @@ module _ (l : List ℕ) where
       let a = and-both (eqb (getD (headOf l) 0 0) 1) _ t in
       let b = and-both (eqb (getD (headOf l) 1 0) 1) _ (a .1) in
       (eqb-true _ 1 (a .0), eqb-true _ 1 (b .0), eqb-true _ 0 (b .1))
-
-  pub other-head : (Headed → ⊥) → test2 l ≡ Refused Head
-  unfolding test2
-  other-head n = fails _ Head Headed head-says n
 
   pub list-head : Headed → test2 l ≡ Passed
   unfolding test2
@@ -113,17 +107,3 @@ head-first l =
     sym
     (chain-assoc (test1 l) _ _
     ∙ ap (λ (c : Checked). test1 l ⟫ c) (chain-assoc (test2 l) _ _ ∙ ap (λ (c : Checked). test2 l ⟫ c) (chain-assoc (test3 (count l)) (test1exact l) (test4 (flowsOf l)))))
-
--- tests 5 and 6 as the code has them
-pub number-test : (fs : List Flow) → test5 fs ≡ pairTest Number fs
-unfolding test5 newNumber
-number-test fs = refl
-
-pub interval-test : (fs : List Flow) → test6 fs ≡ pairTest Interval fs
-unfolding test6 relatedInterval
-interval-test fs = refl
-
--- tests 1 to 7 in their order
-pub in-order : (l : List ℕ) → tests1to7 l ≡ (tests1to4 l ⟫ test5 (flowsOf l) ⟫ test6 (flowsOf l) ⟫ test7 (flowsOf l))
-unfolding tests1to7
-in-order l = refl

@@ -1,11 +1,10 @@
-// A packed list of flows: its records, its tests 1 to 7, and its frame, cycle, grants and load.
+// A packed list of flows: its records, and its frame, cycle, grants and load. Tests 1 to 7 are defined here; `accepting` is their
+// code.
 //
 // Every record is handed to the field reader as a part of the slice. No public function asks anything of its caller.
 mod facts;
 mod numbers;
 mod packed;
-mod pairs;
-mod tests;
 
 pub use facts::Facts;
 pub use facts::facts_of;
@@ -16,5 +15,3 @@ pub use packed::count;
 pub use packed::flow_at;
 pub use packed::write_head;
 pub use packed::write_record;
-pub use tests::tests_1_to_4;
-pub use tests::tests_1_to_7;

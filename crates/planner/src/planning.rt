@@ -53,7 +53,7 @@ pub fn plan(list: &[u8], room: &mut [u8]) -> Written
     ensures { λ r. ⌜ r ≡ planAnswer (now (list .entry)) (length (now (room .entry))) ⌝ }
     ensures { λ _. ⌜ now (room .exit) ≡ planRoom (now (list .entry)) (now (room .entry)) ⌝ }
 {
-    let tests = lists::tests_1_to_7(list);
+    let tests = accepting::tests_1_to_7(list);
     if let Checked::Refused(r) = tests {
         return Written::Refused(r);
     }

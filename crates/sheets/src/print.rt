@@ -86,7 +86,7 @@ pub fn sheet_from_list(list: &[u8], room: &mut [u8]) -> Written
     ensures { λ r. ⌜ r ≡ sheetAnswer (now (list .entry)) (length (now (room .entry))) ⌝ }
     ensures { λ _. ⌜ now (room .exit) ≡ sheetRoom (now (list .entry)) (now (room .entry)) ⌝ }
 {
-    let checked = lists::tests_1_to_4(list);
+    let checked = accepting::tests_1_to_4(list);
     if let Checked::Refused(r) = checked {
         return Written::Refused(r);
     }

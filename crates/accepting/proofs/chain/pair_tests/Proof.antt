@@ -1,0 +1,36 @@
+-- `accepting::chain::pair_tests` meets its contract.
+-- Assumes nothing.
+use mathlib.Core.Path.{sym, _∙_}
+use borrow.Author.Needs.{needs}
+use Rattle.refusals.proofs.Chains.{first-refuses, first-passes}
+use Rattle.accepting.proofs.chain.pair_tests.Statement.{statement}
+use Rattle.accepting.proofs.chain.pair_tests.Tie as tie
+
+pair-test-requires : tie.Need-pair-test-requires
+pair-test-requires c κs = search needs
+
+enum-known-numbers : tie.Need-enum-known-numbers
+enum-known-numbers c = search needs
+
+returns : tie.Need-returns
+returns c = first-refuses _ _ _ (sym (c .before .before .before .pair-test .ensures) ∙ c .before .numbers .given .1)
+
+enum-told : tie.Need-enum-told
+enum-told c = search needs
+
+pair-test-requires-2 : tie.Need-pair-test-requires-2
+pair-test-requires-2 c κs = search needs
+
+returns-2 : tie.Need-returns-2
+returns-2 c = first-passes _ _ _ (sym (c .before .before .before .pair-test .ensures) ∙ c .before .enum-told .given .1) (c .pair-test2 .ensures)
+
+pub pair-tests-spec : {M : Type 1} → statement M
+pair-tests-spec =
+    tie.close
+    (tie.spec
+    pair-test-requires
+    enum-known-numbers
+    returns
+    enum-told
+    pair-test-requires-2
+    returns-2)

@@ -1,0 +1,8 @@
+// Tests 1 to 7 of a packed list, in their order.
+//
+// They write nothing. No public function asks anything of its caller.
+mod chain;
+mod pairs;
+
+pub use chain::tests_1_to_4;
+pub use chain::tests_1_to_7;
