@@ -1,6 +1,6 @@
 // The flow of a grant, looked up in the list: for each number a list record is noted, and a search starts there.
 ghost use mathlib.Core.Path.{_≡_};
-ghost use Prim.Native.Nat.{_%_, _≤_, _<_, min};
+ghost use Prim.Native.Nat.{_%_, _<_, min};
 ghost use lib.ListN.{length, replicate};
 ghost use Rattle.lists.specs.Lists.{flowsOf};
 ghost use Rattle.checking.specs.Parts.{found, recordOf, Indexed};
