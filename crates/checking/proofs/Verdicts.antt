@@ -1,52 +1,48 @@
 -- What tests 13 to 18 answer, as the code asks them. Assumes nothing.
 use mathlib.Core.Path.{_≡_, refl, sym, ap, _∙_}
-use mathlib.Core.Bool.{_&&_}
 use mathlib.Core.List.{List}
 use Prim.Native.Nat.{ℕ, zero, suc, _+_, _-_, _/_}
 use native.Mathlib.Omega.{arith}
 use lib.Dec.{leb, eqb}
 use lib.ListN.{length, getD}
-use borrow.Author.Tests.{eqb-true, eq-eqb}
-use Rattle.logic.proofs.Tests.{by-test, and-both}
+use borrow.Author.Tests.{eq-eqb, ne-eqb}
 use Rattle.fields.specs.declared.flow.Flow.{Flow}
-use Rattle.refusals.specs.declared.Refusal.the-variants.{UnknownFlow, PastCycle, OtherCycle}
+use Rattle.refusals.specs.declared.Refusal.the-variants.{UnknownFlow, Timing, PastCycle, OtherCycle}
 use Rattle.refusals.specs.declared.Checked.the-variants.{Passed, Refused}
 use Rattle.refusals.specs.Tests.{after}
-use Rattle.refusals.proofs.Chains.{unless-no}
-use Rattle.refusals.proofs.Walks.{before, walk-alone}
-use Rattle.lists.specs.Facts.{cycle, frame, grantsOf}
+use Rattle.refusals.proofs.Walks.{before, walk, walk-alone}
+use Rattle.lists.specs.declared.facts.Facts.{Facts}
+use Rattle.lists.specs.Facts.{cycle, frame, grantsOf, factsOf}
 use Rattle.tables.specs.declared.packed.Grant.{Grant}
 use Rattle.tables.specs.Tables.{cycleOf, frameOf}
-use Rattle.checking.specs.declared.grants.Test.the-variants.{Listed, Timely, Clears, Ends}
-use Rattle.law.specs.Check.{slots, to, test13, listed, test14, counted, test16, clears, test17, ends, test18}
+use Rattle.checking.specs.declared.grants.Test.the-variants.{Listed, Clears, Ends}
+use Rattle.law.specs.Check.{slots, to, test13, listed, test14, counted, timely, test16, clears, test17, ends, test18}
 use Rattle.law.specs.Law.{blank}
-use Rattle.checking.specs.Parts.{grantTest}
+use Rattle.checking.specs.Parts.{belongs, grantTest}
 
 -- the table has the list's cycle and frame
-module _ (fs : List Flow) (t : List ℕ) where
-  abbrev pub Belongs : Type 0
-  Belongs = (cycleOf t ≡ cycle fs) × (frameOf t ≡ frame fs)
+module _ (facts : Facts) (t : List ℕ) where
+  pub other-cycle : (cycleOf t ≡ facts .cycle → ⊥) → Refused OtherCycle ≡ belongs facts t
+  other-cycle n = rw (ne-eqb (cycleOf t) (facts .cycle) n)
 
-  pub other : (Belongs → ⊥) → Refused OtherCycle ≡ test13 fs t
-  unfolding test13
-  other n =
-      by-test (eqb (cycleOf t) (cycle fs) && eqb (frameOf t) (frame fs))
-      (λ e.
-      let both = and-both (eqb (cycleOf t) (cycle fs)) (eqb (frameOf t) (frame fs)) e in
-      absurd (n (eqb-true (cycleOf t) (cycle fs) (both .0), eqb-true (frameOf t) (frame fs) (both .1))))
-      (λ e. sym (unless-no (eqb (cycleOf t) (cycle fs) && eqb (frameOf t) (frame fs)) OtherCycle e))
+  module _ (e : cycleOf t ≡ facts .cycle) where
+    pub other-frame : (frameOf t ≡ facts .frame → ⊥) → Refused OtherCycle ≡ belongs facts t
+    other-frame n = rw (eq-eqb (cycleOf t) (facts .cycle) e, ne-eqb (frameOf t) (facts .frame) n)
 
-  pub belongs : Belongs → Passed ≡ test13 fs t
-  unfolding test13
-  belongs b = rw (eq-eqb (cycleOf t) (cycle fs) (b .0), eq-eqb (frameOf t) (frame fs) (b .1))
+    pub own : frameOf t ≡ facts .frame → Passed ≡ belongs facts t
+    own q = rw (eq-eqb (cycleOf t) (facts .cycle) e, eq-eqb (frameOf t) (facts .frame) q)
 
--- tests 14, 16, 17 and 18 as the code has them
+pub belongs-is : (fs : List Flow) (t : List ℕ) (facts : Facts) → facts ≡ factsOf fs → belongs facts t ≡ test13 fs t
+unfolding test13 factsOf
+belongs-is fs t facts e = rw e
+
+-- tests 14 and 16 to 18 as the code has them
 module _ (fs : List Flow) (gs : List Grant) where
   pub flow-test : test14 fs gs ≡ grantTest Listed fs gs
   unfolding test14
   flow-test = sym (walk-alone UnknownFlow (listed fs) gs blank)
 
-  pub time-test : test16 fs gs ≡ grantTest Timely fs gs
+  pub time-test : walk Timing (timely 0 fs) gs blank 0 ≡ test16 fs gs
   unfolding test16
   time-test = refl
 

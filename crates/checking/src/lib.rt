@@ -2,6 +2,7 @@
 //
 // It writes nothing. No public function asks anything of its caller.
 mod belongs;
+mod cells;
 mod counts;
 mod flows;
 mod grants;

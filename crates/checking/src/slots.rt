@@ -8,31 +8,35 @@ ghost use Rattle.lists.specs.Lists.{flowsOf};
 ghost use Rattle.tables.specs.Tables.{count, grantsOf};
 ghost use Rattle.law.specs.Check.{slots, clears};
 ghost use Rattle.law.specs.Law.{blank};
+ghost use Rattle.checking.specs.Parts.{Indexed};
 use crate::flows::find;
 use tables::Grant;
 
 // The slot behind the last that the grant takes.
-fn end_of(list: &[u8], g: Grant) -> u64
+fn end_of(list: &[u8], records: &[u8], g: Grant) -> u64
+    requires { ⌜ Indexed (flowsOf (now list)) 0 (now records) ⌝ }
     ensures { λ r. ⌜ r ≡ g .start + slots (flowsOf (now (list .entry))) g ⌝ }
 {
-    let f = find(list, g.flow).flow;
+    let f = find(list, records, g.flow).flow;
     lists::wide(g.start) + lists::wide(lists::occupies(f))
 }
 
 // The grant before g, record i of the table, ends where g starts, or earlier.
-pub fn clears(list: &[u8], table: &[u8], i: usize, g: Grant) -> bool
+pub fn clears(list: &[u8], records: &[u8], table: &[u8], i: usize, g: Grant) -> bool
+    requires { ⌜ Indexed (flowsOf (now list)) 0 (now records) ⌝ }
     requires { ⌜ i ≤ count (now table) ⌝ }
     ensures { λ r. ⌜ r ≡ after (clears (flowsOf (now (list .entry)))) (before (grantsOf (now (table .entry))) blank i) g ⌝ }
 {
     if i == 0 {
         return true;
     }
-    end_of(list, tables::grant_at(table, i - 1)) <= lists::wide(g.start)
+    end_of(list, records, tables::grant_at(table, i - 1)) <= lists::wide(g.start)
 }
 
 // The grant ends inside the cycle.
-pub fn ends(list: &[u8], cycle: u16, g: Grant) -> bool
+pub fn ends(list: &[u8], records: &[u8], cycle: u16, g: Grant) -> bool
+    requires { ⌜ Indexed (flowsOf (now list)) 0 (now records) ⌝ }
     ensures { λ r. ⌜ r ≡ leb (g .start + slots (flowsOf (now (list .entry))) g) cycle ⌝ }
 {
-    end_of(list, g) <= lists::wide(cycle)
+    end_of(list, records, g) <= lists::wide(cycle)
 }

@@ -1,46 +1,58 @@
 // The check, and document 01's tests 13 to 18, in their order.
 ghost use mathlib.Core.Path.{_≡_};
 ghost use Rattle.lists.specs.Lists.{flowsOf};
+ghost use Rattle.lists.specs.Facts.{cycle as cycleOf};
 ghost use Rattle.tables.specs.Tables.{grantsOf};
 ghost use Rattle.law.specs.Check.{tests14to18, lawTests, check};
+ghost use Rattle.checking.specs.Parts.{Indexed};
 use crate::belongs::test_13;
+use crate::cells::CELLS;
 use crate::counts::test_15;
+use crate::flows::ABSENT;
+use crate::flows::NUMBERS;
+use crate::flows::index;
 use crate::grants::Test;
 use crate::grants::grant_test;
+use crate::timing::test_16;
 use refusals::Checked;
 
 // Tests 14 to 18 of a table against its list.
-fn tests_14_to_18(list: &[u8], table: &[u8]) -> Checked
+fn tests_14_to_18(list: &[u8], records: &[u8], cycle: u16, table: &[u8]) -> Checked
+    requires { ⌜ Indexed (flowsOf (now list)) 0 (now records) × (cycle ≡ cycleOf (flowsOf (now list))) ⌝ }
     ensures { λ r. ⌜ r ≡ tests14to18 (flowsOf (now (list .entry))) (grantsOf (now (table .entry))) ⌝ }
 {
-    let flows = grant_test(Test::Listed, list, table);
+    let mut cells = [0u16; CELLS];
+    let flows = grant_test(Test::Listed, list, records, table);
     if let Checked::Refused(r) = flows {
         return Checked::Refused(r);
     }
-    let counts = test_15(list, table);
+    let counts = test_15(list, records, cycle, table, &mut cells);
     if let Checked::Refused(r) = counts {
         return Checked::Refused(r);
     }
-    let times = grant_test(Test::Timely, list, table);
+    let times = test_16(list, records, table, &mut cells);
     if let Checked::Refused(r) = times {
         return Checked::Refused(r);
     }
-    let slots = grant_test(Test::Clears, list, table);
+    let slots = grant_test(Test::Clears, list, records, table);
     if let Checked::Refused(r) = slots {
         return Checked::Refused(r);
     }
-    grant_test(Test::Ends(lists::facts_of(list).cycle), list, table)
+    grant_test(Test::Ends(cycle), list, records, table)
 }
 
 // Tests 13 to 18: what the law asks of a table whose list has passed tests 1 to 7 and whose form is right.
 pub fn law_tests(list: &[u8], table: &[u8]) -> Checked
     ensures { λ r. ⌜ r ≡ lawTests (flowsOf (now (list .entry))) (now (table .entry)) ⌝ }
 {
-    let whole = test_13(list, table);
+    let facts = lists::facts_of(list);
+    let whole = test_13(facts, table);
     if let Checked::Refused(r) = whole {
         return Checked::Refused(r);
     }
-    tests_14_to_18(list, table)
+    let mut records = [ABSENT; NUMBERS];
+    index(list, &mut records);
+    tests_14_to_18(list, &records, facts.cycle, table)
 }
 
 // The check of a table against its list: the list by tests 1 to 7, the table's form by 11 and 12, and 13 to 18.

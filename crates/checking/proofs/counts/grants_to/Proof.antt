@@ -1,4 +1,4 @@
--- `law::counts::grants_to` meets its contract.
+-- `checking::counts::grants_to` meets its contract.
 -- Assumes nothing.
 use mathlib.Core.Logic.{⊎-elim}
 use Prim.Native.Nat.{_-_, _≤_, _<_}

@@ -1,7 +1,7 @@
--- `law::flows::find` meets its contract.
+-- `checking::flows::find` meets its contract.
 -- Assumes nothing.
-use mathlib.Core.Path.{_≡_, refl, sym, _∙_}
-use Prim.Native.Nat.{_-_, _≤_, _<_}
+use mathlib.Core.Path.{_≡_, sym, _∙_}
+use Prim.Native.Nat.{_-_, _<_}
 use native.Mathlib.Omega.{arith}
 use lib.ListN.{length, getD, drop}
 use borrow.Author.Needs.{needs}
@@ -14,36 +14,41 @@ use Rattle.checking.proofs.flows.find.Statement.{statement}
 use Rattle.checking.proofs.flows.find.Tie as tie
 
 abbrev Inv-loop : tie.InvT-loop
-Inv-loop list number n i₀ i = (i ≤ n) × (found (drop i (flowsOf list)) number ≡ found (flowsOf list) number)
+Inv-loop list records number n i₀ i = found (drop i (flowsOf list)) number ≡ found (flowsOf list) number
 
 abbrev μ-loop : tie.MeasureT-loop
-μ-loop list number n i₀ i = n - i
+μ-loop list records number n i₀ i = n - i
 
 count-requires : tie.Need-count-requires Inv-loop μ-loop
 count-requires c κs = search needs
 
+record-of-requires : tie.Need-record-of-requires Inv-loop μ-loop
+record-of-requires c κs = c .before .before .before .pre .entries
+
 loop-holds : tie.Need-loop-holds Inv-loop μ-loop
-loop-holds c = (omega arith, refl)
+loop-holds c =
+    let s = c .before .before .before .before in
+    rw (c .record-of .ensures) (s .pre .starts (s .args .number))
 
 flow-at-requires : tie.Need-flow-at-requires Inv-loop μ-loop
 flow-at-requires c κs = search needs
 
 -- record i has a flow, and it is what was read
-inside : (c : tie.After-flow-at Inv-loop μ-loop) → c .before .before .loop .i < length (flowsOf (c .before .before .before .before .before .args .list .now))
-inside c = omega (arith, c .before .before .before .count .ensures, length-flows (c .before .before .before .before .before .args .list .now))
+inside : (c : tie.After-flow-at Inv-loop μ-loop) → c .before .before .loop .i < length (flowsOf (c .before .before .before .before .before .before .before .args .list .now))
+inside c = omega (arith, c .before .before .before .before .count .ensures, length-flows (c .before .before .before .before .before .before .before .args .list .now))
 
 read : (c : tie.After-flow-at Inv-loop μ-loop)
-    → c .flow-at .result ≡ getD (flowsOf (c .before .before .before .before .before .args .list .now)) (c .before .before .loop .i) noFlow
+    → c .flow-at .result ≡ getD (flowsOf (c .before .before .before .before .before .before .before .args .list .now)) (c .before .before .loop .i) noFlow
 read c =
-    flow-is (c .before .before .before .before .before .args .list .now) (c .before .before .loop .i) (c .flow-at .result)
-    (omega (arith, c .before .before .before .count .ensures)) (c .flow-at .ensures)
+    flow-is (c .before .before .before .before .before .before .before .args .list .now) (c .before .before .loop .i) (c .flow-at .result)
+    (omega (arith, c .before .before .before .before .count .ensures)) (c .flow-at .ensures)
 
 returns : tie.Need-returns Inv-loop μ-loop
 returns c =
     let g = c .before .before in
     let v = g .before .before .loop in
-    let a = g .before .before .before .before .before .args in
-    found-here (flowsOf (a .list .now)) (a .number) (v .i) (inside g) (g .flow-at .result) (read g) (c .if1 .taken) ∙ v .inv .1
+    let a = g .before .before .before .before .before .before .before .args in
+    found-here (flowsOf (a .list .now)) (a .number) (v .i) (inside g) (g .flow-at .result) (read g) (c .if1 .taken) ∙ v .inv
 
 add-i : tie.Need-add-i Inv-loop μ-loop
 add-i c = search needs
@@ -55,8 +60,8 @@ loop-again : tie.Need-loop-again Inv-loop μ-loop
 loop-again c =
     let g = c .before .before in
     let v = g .before .before .loop in
-    let a = g .before .before .before .before .before .args in
-    (omega arith, sym (found-next (flowsOf (a .list .now)) (a .number) (v .i) (inside g) (g .flow-at .result) (read g) (c .if1 .left)) ∙ v .inv .1)
+    let a = g .before .before .before .before .before .before .before .args in
+    sym (found-next (flowsOf (a .list .now)) (a .number) (v .i) (inside g) (g .flow-at .result) (read g) (c .if1 .left)) ∙ v .inv
 
 none-requires : tie.Need-none-requires Inv-loop μ-loop
 none-requires c κs = search needs
@@ -64,9 +69,9 @@ none-requires c κs = search needs
 returns-2 : tie.Need-returns-2 Inv-loop μ-loop
 returns-2 c =
     let v = c .before .before .loop in
-    let n = c .before .before .before in
-    let a = n .before .before .args in
-    rw (c .none .ensures) (found-end (flowsOf (a .list .now)) (a .number) (v .i) (omega (arith, n .count .ensures, length-flows (a .list .now))) ∙ v .inv .1)
+    let n = c .before .before .before .before in
+    let a = n .before .before .before .args in
+    rw (c .none .ensures) (found-end (flowsOf (a .list .now)) (a .number) (v .i) (omega (arith, n .count .ensures, length-flows (a .list .now))) ∙ v .inv)
 
 pub find-spec : {M : Type 1} → statement M
 find-spec =
@@ -75,6 +80,7 @@ find-spec =
     Inv-loop
     μ-loop
     count-requires
+    record-of-requires
     loop-holds
     flow-at-requires
     returns

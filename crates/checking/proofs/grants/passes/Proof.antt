@@ -1,4 +1,4 @@
--- `law::grants::passes` meets its contract.
+-- `checking::grants::passes` meets its contract.
 -- Assumes nothing.
 use mathlib.Core.Path.{_≡_, ap, _∙_}
 use mathlib.Core.List.{List}
@@ -21,12 +21,6 @@ find-requires c κs = search needs
 enum-told-2 : tie.Need-enum-told-2
 enum-told-2 c = search needs
 
-timely-requires : tie.Need-timely-requires
-timely-requires c κs = search needs
-
-enum-told-3 : tie.Need-enum-told-3
-enum-told-3 c = search needs
-
 clears-requires : tie.Need-clears-requires
 clears-requires c κs = search needs
 
@@ -44,13 +38,10 @@ unfolding listed
 returns c = ap (λ (x : Found). x .known) (c .find .ensures) ∙ told _ _ _ _ _ (c .before .enum-told .given .1)
 
 returns-2 : tie.Need-returns-2
-returns-2 c = c .timely .ensures ∙ told _ _ _ _ _ (c .before .enum-told2 .given .1)
+returns-2 c = c .clears .ensures ∙ told _ _ _ _ _ (c .before .enum-told2 .given .1)
 
 returns-3 : tie.Need-returns-3
-returns-3 c = c .clears .ensures ∙ told _ _ _ _ _ (c .before .enum-told3 .given .1)
-
-returns-4 : tie.Need-returns-4
-returns-4 c = c .ends .ensures ∙ told _ _ _ _ _ (c .before .before .test .given .1)
+returns-3 c = c .ends .ensures ∙ told _ _ _ _ _ (c .before .before .test .given .1)
 
 pub passes-spec : {M : Type 1} → statement M
 passes-spec =
@@ -59,12 +50,9 @@ passes-spec =
     enum-told
     find-requires
     enum-told-2
-    timely-requires
-    enum-told-3
     clears-requires
     enum-known-test
     ends-requires
     returns
     returns-2
-    returns-3
-    returns-4)
+    returns-3)

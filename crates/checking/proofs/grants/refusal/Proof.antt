@@ -1,4 +1,4 @@
--- `law::grants::refusal` meets its contract.
+-- `checking::grants::refusal` meets its contract.
 -- Assumes nothing.
 use mathlib.Core.Path.{sym, ap}
 use borrow.Author.Needs.{needs}
@@ -16,9 +16,6 @@ enum-told-2 c = search needs
 enum-told-3 : tie.Need-enum-told-3
 enum-told-3 c = search needs
 
-enum-told-4 : tie.Need-enum-told-4
-enum-told-4 c = search needs
-
 returns : tie.Need-returns
 returns c = ap (λ (test : Test). refusalOf test (c .before .before .args .p)) (sym (c .enum-told .given .1))
 
@@ -28,10 +25,7 @@ returns-2 c = ap (λ (test : Test). refusalOf test (c .before .before .args .p))
 returns-3 : tie.Need-returns-3
 returns-3 c = ap (λ (test : Test). refusalOf test (c .before .before .args .p)) (sym (c .enum-told3 .given .1))
 
-returns-4 : tie.Need-returns-4
-returns-4 c = ap (λ (test : Test). refusalOf test (c .before .before .args .p)) (sym (c .enum-told4 .given .1))
-
 pub refusal-spec : {M : Type 1} → statement M
 refusal-spec =
     tie.close
-    (tie.spec enum-told enum-told-2 enum-told-3 enum-told-4 returns returns-2 returns-3 returns-4)
+    (tie.spec enum-told enum-told-2 enum-told-3 returns returns-2 returns-3)

@@ -1,4 +1,4 @@
--- `law::slots::clears` meets its contract.
+-- `checking::slots::clears` meets its contract.
 -- Assumes nothing.
 use native.Mathlib.Omega.{arith}
 use Prim.Native.Nat.{_-_}
@@ -33,11 +33,11 @@ returns-2 c =
     let e = c .before in
     let g = e .before in
     let n = g .before in
-    let s = n .before .before .before in
+    let s = n .before .before .before .before in
     let a = s .args in
     rw (c .wide .ensures .0)
     (clears-is (flowsOf (a .list .now)) (grantsOf (a .table .now)) (a .i) (g .grant-at .result) (a .g) (e .end-of .result) (n .if1 .left)
-    (grant-is (a .table .now) blank (a .i - 1) (g .grant-at .result) (let h = n .if1 .left in omega (arith, s .pre)) (g .grant-at .ensures))
+    (grant-is (a .table .now) blank (a .i - 1) (g .grant-at .result) (let h = n .if1 .left in omega (arith, s .pre .1)) (g .grant-at .ensures))
     (e .end-of .ensures))
 
 pub clears-spec : {M : Type 1} → statement M

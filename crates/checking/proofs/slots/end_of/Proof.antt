@@ -1,4 +1,4 @@
--- `law::slots::end_of` meets its contract.
+-- `checking::slots::end_of` meets its contract.
 -- Assumes nothing.
 use borrow.Author.Needs.{needs}
 use Rattle.law.specs.Check.{slots}

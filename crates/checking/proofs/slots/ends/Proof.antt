@@ -1,4 +1,4 @@
--- `law::slots::ends` meets its contract.
+-- `checking::slots::ends` meets its contract.
 -- Assumes nothing.
 use borrow.Author.Needs.{needs}
 use Rattle.checking.proofs.slots.ends.Statement.{statement}

@@ -1,4 +1,4 @@
--- `law::tests::check` meets its contract.
+-- `checking::tests::check` meets its contract.
 -- Assumes nothing.
 use mathlib.Core.Path.{_≡_, sym, _∙_}
 use borrow.Author.Needs.{needs}

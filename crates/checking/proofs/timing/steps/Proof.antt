@@ -1,4 +1,4 @@
--- `law::timing::steps` meets its contract.
+-- `checking::timing::steps` meets its contract.
 -- Assumes nothing.
 use mathlib.Core.Path.{_≡_, refl, sym, _∙_}
 use mathlib.Core.Option.{none}

@@ -1,4 +1,4 @@
--- `law::timing::timely` meets its contract.
+-- `checking::timing::timely` meets its contract.
 -- Assumes nothing.
 use mathlib.Core.Path.{sym, ap, _∙_}
 use native.Mathlib.Omega.{arith}
@@ -19,13 +19,13 @@ find-requires c κs = search needs
 returns : tie.Need-returns
 returns c =
     let d = c .before .before .before .before in
-    let a = d .before .before .before .args in
+    let a = d .before .before .before .before .args in
     not-timely 0 (flowsOf (a .list .now)) (before (grantsOf (a .table .now)) blank (a .i)) (a .g)
     (λ p. omega (arith, p .0, c .if1 .taken, ap (λ (x : Found). x .flow .jitter) (d .find .ensures)))
 
 returns-2 : tie.Need-returns-2
 returns-2 c =
-    let s = c .before .before .before .before .before .before .before .before .before in
+    let s = c .before .before .before .before .before .before .before .before .before .before in
     let a = s .args in
     not-timely 0 (flowsOf (a .list .now)) (before (grantsOf (a .table .now)) blank (a .i)) (a .g) (λ p. omega (arith, p .1, c .if2 .taken))
 
@@ -36,7 +36,7 @@ returns-3 : tie.Need-returns-3
 returns-3 c =
     let e = c .before .before .before in
     let d = e .before .before .before .before in
-    let a = d .before .before .before .args in
+    let a = d .before .before .before .before .args in
     let fs = flowsOf (a .list .now) in
     let seen = before (grantsOf (a .table .now)) blank (a .i) in
     c .steps .ensures
