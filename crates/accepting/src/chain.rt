@@ -7,12 +7,12 @@ ghost use Rattle.lists.specs.Tests.{test1, test2, test3, test1exact, test4, tes
 ghost use Rattle.accepting.specs.Parts.{headed, pairTests};
 use crate::pairs::Pair;
 use crate::pairs::pair_test;
+use amounts::times;
 use fields::Kind;
 use fields::Rule;
 use lists::count;
 use lists::facts_of;
 use lists::flow_at;
-use lists::times;
 use refusals::Checked;
 use refusals::Refusal;
 

@@ -65,7 +65,7 @@ pub fn test_15(list: &[u8], records: &[u8], cycle: u16, table: &[u8], cells: &mu
     for i in 0..n {
         let f = lists::flow_at(list, i);
         if grants_of(list, records, table, cells, f.number)
-            != lists::times(cycle, f.interval) as usize
+            != amounts::times(cycle, f.interval) as usize
         {
             return Checked::Refused(Refusal::GrantCount(i + 1));
         }

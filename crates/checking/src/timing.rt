@@ -36,7 +36,7 @@ fn steps(table: &[u8], i: usize, g: Grant, interval: u16) -> bool
         j -= 1;
         let earlier = tables::grant_at(table, j);
         if earlier.flow == g.flow {
-            return lists::wide(time) == lists::wide(nominal(earlier)) + lists::wide(interval);
+            return amounts::wide(time) == amounts::wide(nominal(earlier)) + amounts::wide(interval);
         }
     }
     time < interval

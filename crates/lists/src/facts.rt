@@ -3,12 +3,12 @@ ghost use mathlib.Core.Path.{_≡_};
 ghost use Rattle.lists.specs.Lists.{flowsOf};
 ghost use Rattle.lists.specs.Facts.{occupies, factsOf};
 ghost use Rattle.lists.specs.Parts.{spanOf, totalsOf};
-use crate::numbers::larger;
-use crate::numbers::smaller;
-use crate::numbers::times;
-use crate::numbers::wide;
 use crate::packed::count;
 use crate::packed::flow_at;
+use amounts::larger;
+use amounts::smaller;
+use amounts::times;
+use amounts::wide;
 use fields::Flow;
 
 // The largest and the smallest interval, the grants in a cycle and the slots that they take.

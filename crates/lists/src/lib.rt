@@ -3,14 +3,11 @@
 //
 // Every record is handed to the field reader as a part of the slice. No public function asks anything of its caller.
 mod facts;
-mod numbers;
 mod packed;
 
 pub use facts::Facts;
 pub use facts::facts_of;
 pub use facts::occupies;
-pub use numbers::times;
-pub use numbers::wide;
 pub use packed::count;
 pub use packed::flow_at;
 pub use packed::write_head;

@@ -1,4 +1,6 @@
-// Numbers of 16 bits.
+// Numbers of 16 bits, which slots are counted in.
+//
+// It knows nothing of flows or grants. No function asks anything of its caller.
 ghost use mathlib.Core.Path.{_≡_};
 ghost use Prim.Native.Nat.{_/_, _<_, max, min};
 

@@ -1,10 +1,10 @@
--- `lists::numbers::times` meets its contract.
+-- `amounts::times` meets its contract.
 -- Assumes nothing.
 use mathlib.Core.Path.{sym}
 use native.Mathlib.Nat.{div-zero}
 use borrow.Author.Needs.{needs}
-use Rattle.lists.proofs.numbers.times.Statement.{statement}
-use Rattle.lists.proofs.numbers.times.Tie as tie
+use Rattle.amounts.proofs.times.Statement.{statement}
+use Rattle.amounts.proofs.times.Tie as tie
 
 returns : tie.Need-returns
 returns c = rw (c .if1 .taken) (sym (div-zero (c .before .args .cycle)))
