@@ -1,1 +1,2 @@
 pub mod Verdicts
+pub mod Seen

@@ -1,13 +1,13 @@
 -- `accepting::chain::pair_tests` meets its contract.
 -- Assumes nothing.
-use mathlib.Core.Path.{sym, _∙_}
+use mathlib.Core.Path.{refl, sym, _∙_}
 use borrow.Author.Needs.{needs}
 use Rattle.refusals.proofs.Chains.{first-refuses, first-passes}
 use Rattle.accepting.proofs.chain.pair_tests.Statement.{statement}
 use Rattle.accepting.proofs.chain.pair_tests.Tie as tie
 
 pair-test-requires : tie.Need-pair-test-requires
-pair-test-requires c κs = search needs
+pair-test-requires c κs = refl
 
 enum-known-numbers : tie.Need-enum-known-numbers
 enum-known-numbers c = search needs
@@ -18,11 +18,16 @@ returns c = first-refuses _ _ _ (sym (c .before .before .before .pair-test .ensu
 enum-told : tie.Need-enum-told
 enum-told c = search needs
 
+related-up-to-requires : tie.Need-related-up-to-requires
+related-up-to-requires c κs = search needs
+
 pair-test-requires-2 : tie.Need-pair-test-requires-2
-pair-test-requires-2 c κs = search needs
+pair-test-requires-2 c κs = c .related-up-to .ensures
 
 returns-2 : tie.Need-returns-2
-returns-2 c = first-passes _ _ _ (sym (c .before .before .before .pair-test .ensures) ∙ c .before .enum-told .given .1) (c .pair-test2 .ensures)
+returns-2 c =
+    let told = c .before .before in
+    first-passes _ _ _ (sym (told .before .before .pair-test .ensures) ∙ told .enum-told .given .1) (c .pair-test2 .ensures)
 
 pub pair-tests-spec : {M : Type 1} → statement M
 pair-tests-spec =
@@ -32,5 +37,6 @@ pair-tests-spec =
     enum-known-numbers
     returns
     enum-told
+    related-up-to-requires
     pair-test-requires-2
     returns-2)

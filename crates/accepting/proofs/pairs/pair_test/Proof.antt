@@ -1,7 +1,7 @@
 -- `accepting::pairs::pair_test` meets its contract.
 -- Assumes nothing.
-use mathlib.Core.Path.{_≡_, refl, sym, ap, _∙_}
-use Prim.Native.Nat.{_-_, _≤_, _<_}
+use mathlib.Core.Path.{_≡_, sym, ap, _∙_}
+use Prim.Native.Nat.{_-_, _<_}
 use native.Mathlib.Omega.{arith}
 use lib.ListN.{length, getD}
 use borrow.Author.Tests.{not-true, not-false}
@@ -10,24 +10,24 @@ use Rattle.fields.specs.declared.flow.Flow.{Flow}
 use Rattle.fields.specs.Flows.{noFlow}
 use Rattle.refusals.specs.declared.Refusal.{Refusal}
 use Rattle.refusals.specs.declared.Checked.the-variants.{Refused}
-use Rattle.refusals.proofs.Walks.{before, walk, walk-next, walk-here, walk-end}
+use Rattle.refusals.proofs.Walks.{before, walk-next, walk-here, walk-end}
 use Rattle.lists.specs.Lists.{flowsOf}
-use Rattle.accepting.specs.Parts.{agreesWith, refusalOf, pairTest}
+use Rattle.accepting.specs.Parts.{agreesWith, refusalOf, Settled}
 use Rattle.lists.proofs.Records.{length-flows, flow-is}
 use Rattle.accepting.proofs.pairs.pair_test.Statement.{statement}
 use Rattle.accepting.proofs.pairs.pair_test.Tie as tie
 
 abbrev Inv-loop : tie.InvT-loop
-Inv-loop pair list n i₀ i = (i ≤ n) × (walk (refusalOf pair) (agreesWith pair) (flowsOf list) noFlow i ≡ pairTest pair (flowsOf list))
+Inv-loop pair list start n i₀ i = Settled pair (flowsOf list) i
 
 abbrev μ-loop : tie.MeasureT-loop
-μ-loop pair list n i₀ i = n - i
+μ-loop pair list start n i₀ i = n - i
 
 count-requires : tie.Need-count-requires Inv-loop μ-loop
 count-requires c κs = search needs
 
 loop-holds : tie.Need-loop-holds Inv-loop μ-loop
-loop-holds c = (omega arith, refl)
+loop-holds c = c .before .before .pre
 
 flow-at-requires : tie.Need-flow-at-requires Inv-loop μ-loop
 flow-at-requires c κs = search needs
@@ -69,7 +69,7 @@ returns c =
     let a = g .before .before .before .before .before .args in
     ap (λ (r : Refusal). Refused r) (c .refusal .ensures)
     ∙ walk-here (refusalOf (a .pair)) (agreesWith (a .pair)) (flowsOf (a .list .now)) noFlow (v .i) (inside t) (t .agrees-with-earlier .result) (judged t) (not-true _ (c .before .if1 .taken))
-    ∙ v .inv .1
+    ∙ v .inv
 
 add-i : tie.Need-add-i Inv-loop μ-loop
 add-i c = search needs
@@ -82,18 +82,16 @@ loop-again c =
     let t = c .before in
     let g = t .before in
     let v = g .before .before .loop in
-    let a = g .before .before .before .before .before .args in (
-      omega arith,
-      sym (walk-next (refusalOf (a .pair)) (agreesWith (a .pair)) (flowsOf (a .list .now)) noFlow (v .i) (inside t) (t .agrees-with-earlier .result) (judged t) (not-false _ (c .if1 .left)))
-          ∙ v .inv .1,
-    )
+    let a = g .before .before .before .before .before .args in
+    sym (walk-next (refusalOf (a .pair)) (agreesWith (a .pair)) (flowsOf (a .list .now)) noFlow (v .i) (inside t) (t .agrees-with-earlier .result) (judged t) (not-false _ (c .if1 .left)))
+    ∙ v .inv
 
 returns-2 : tie.Need-returns-2 Inv-loop μ-loop
 returns-2 c =
     let v = c .before .loop in
     let n = c .before .before in
     let a = n .before .before .args in
-    walk-end (refusalOf (a .pair)) (agreesWith (a .pair)) (flowsOf (a .list .now)) noFlow (v .i) (omega (arith, n .count .ensures, length-flows (a .list .now))) ∙ v .inv .1
+    walk-end (refusalOf (a .pair)) (agreesWith (a .pair)) (flowsOf (a .list .now)) noFlow (v .i) (omega (arith, n .count .ensures, length-flows (a .list .now))) ∙ v .inv
 
 pub pair-test-spec : {M : Type 1} → statement M
 pair-test-spec =
