@@ -1,14 +1,15 @@
 -- What the quick ways of tests 5 and 6 note of the records before tells of them. Assumes nothing.
 use mathlib.Core.Path.{_≡_, refl, sym, ap, subst, _∙_}
-use mathlib.Core.Bool.{Bool, true}
+use mathlib.Core.Bool.{Bool, true, not}
 use mathlib.Core.List.{List, [], _∷_}
-use Prim.Native.Nat.{ℕ, _+_, _≤_, _<_, max, min}
+use Prim.Native.Nat.{ℕ, _+_, _/_, _%_, _^_, _≤_, _<_, max, min}
 use native.Mathlib.Omega.{arith}
 use native.Mathlib.Nat.{mod-self}
 use native.Mathlib.Numerals.{add-one}
+use lib.Dec.{eqb}
 use lib.ListN.{length, getD, set, length-set}
 use lib.Seq.{getD-set-same, getD-set-other}
-use borrow.Author.Tests.{eq-eqb}
+use borrow.Author.Tests.{eq-eqb, ne-eqb}
 use Rattle.logic.specs.Lists.{All, every}
 use Rattle.logic.proofs.Tests.{by-eq, both-and}
 use Rattle.logic.proofs.Members.{all-imp}
@@ -19,8 +20,9 @@ use Rattle.lists.specs.Lists.{count, flowAt, flowsOf}
 use Rattle.lists.specs.Facts.{related}
 use Rattle.lists.proofs.Records.{length-flows, flow-is}
 use Rattle.accepting.specs.declared.pairs.Pair.{Pair}
-use Rattle.accepting.specs.declared.pairs.Pair.the-variants.{Interval}
-use Rattle.accepting.specs.Parts.{agreesWith, refusalOf, Settled, OneOf, Chain, Kept}
+use Rattle.accepting.specs.declared.pairs.Pair.the-variants.{Number, Interval}
+use Rattle.accepting.specs.Parts.{agreesWith, refusalOf, Settled, OneOf, Chain, Kept, bit, Noted}
+use Rattle.accepting.proofs.Bits.{bit-set, bit-other}
 
 -- what holds of each entry passes the test
 pub all-every : (ok : Flow → Bool) (fs : List Flow) → All (λ f. ok f ≡ true) fs → every ok fs ≡ true
@@ -91,3 +93,42 @@ module _ (fs : List Flow) (xs : List ℕ) (k : ℕ) (f : Flow) (ys : List ℕ) (
       all-every (λ g. related (g .interval) (f .interval)) fs
       (all-imp (λ g. OneOf ys n (g .interval)) (λ g. related (g .interval) (f .interval) ≡ true) fs
       (λ g o. rw (sym (o .2), sym (j .one .2)) (j .chain (o .0) (j .one .0) (o .1) (j .one .1))) all-kept)
+
+-- ---- the numbers that are noted
+
+-- a number whose bit was 0 is noted by adding the bit's weight
+pub noted-more : (xs : List ℕ) (x : ℕ) → x / 8 < length xs → bit xs x ≡ 0 → Noted xs x (set xs (x / 8) (getD xs (x / 8) 0 + 2 ^ (x % 8)))
+noted-more xs x h z =
+    record {
+      new = z;
+      one = rw same (bit-set n b z);
+      rest = λ y e. by-eq (y / 8) (x / 8)
+          (λ u. by-eq (y % 8) b
+          (λ v. rw (u, v, same) (bit-set n b z))
+          (λ v. rw (u, same) (bit-other n b z (y % 8) v ∙ rw u at e)))
+          (λ u. rw (getD-set-other xs (x / 8) (y / 8) (n + 2 ^ b) 0 u) e);
+    }
+  where
+    n : ℕ
+    n = getD xs (x / 8) 0
+
+    b : ℕ
+    b = x % 8
+
+    same : getD (set xs (x / 8) (n + 2 ^ b)) (x / 8) 0 ≡ n + 2 ^ b
+    same = getD-set-same xs (x / 8) (n + 2 ^ b) 0 h
+
+-- the numbers of some records are noted
+abbrev pub AllNoted : List Flow → List ℕ → Type 0
+AllNoted fs xs = All (λ f. bit xs (f .number) ≡ 1) fs
+
+module _ (fs : List Flow) (xs : List ℕ) (f : Flow) (ys : List ℕ) (a : AllNoted fs xs) (j : Noted xs (f .number) ys) where
+  pub all-noted : AllNoted fs ys
+  all-noted = all-imp (λ g. bit xs (g .number) ≡ 1) (λ g. bit ys (g .number) ≡ 1) fs (λ g e. j .rest (g .number) e) a
+
+  -- and so none of them has the next one's
+  pub new-to-all : agreesWith Number fs f ≡ true
+  new-to-all =
+      all-every (λ g. not (eqb (g .number) (f .number))) fs
+      (all-imp (λ g. bit xs (g .number) ≡ 1) (λ g. not (eqb (g .number) (f .number)) ≡ true) fs
+      (λ g e. rw (ne-eqb (g .number) (f .number) (λ q. let s = rw q at e in absurd (omega (arith, j .new))))) a)

@@ -1,13 +1,16 @@
 -- `accepting::chain::pair_tests` meets its contract.
 -- Assumes nothing.
-use mathlib.Core.Path.{refl, sym, _∙_}
+use mathlib.Core.Path.{sym, _∙_}
 use borrow.Author.Needs.{needs}
 use Rattle.refusals.proofs.Chains.{first-refuses, first-passes}
 use Rattle.accepting.proofs.chain.pair_tests.Statement.{statement}
 use Rattle.accepting.proofs.chain.pair_tests.Tie as tie
 
+new-up-to-requires : tie.Need-new-up-to-requires
+new-up-to-requires c κs = search needs
+
 pair-test-requires : tie.Need-pair-test-requires
-pair-test-requires c κs = refl
+pair-test-requires c κs = c .new-up-to .ensures
 
 enum-known-numbers : tie.Need-enum-known-numbers
 enum-known-numbers c = search needs
@@ -33,6 +36,7 @@ pub pair-tests-spec : {M : Type 1} → statement M
 pair-tests-spec =
     tie.close
     (tie.spec
+    new-up-to-requires
     pair-test-requires
     enum-known-numbers
     returns
