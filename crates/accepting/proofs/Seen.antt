@@ -1,5 +1,5 @@
 -- What the quick ways of tests 5 and 6 note of the records before tells of them. Assumes nothing.
-use mathlib.Core.Path.{_≡_, refl, sym, ap, subst, _∙_}
+use mathlib.Core.Path.{_≡_, refl, sym, subst, _∙_}
 use mathlib.Core.Bool.{Bool, true, not}
 use mathlib.Core.List.{List, [], _∷_}
 use Prim.Native.Nat.{ℕ, _+_, _/_, _%_, _^_, _≤_, _<_, max, min}
@@ -15,13 +15,12 @@ use Rattle.logic.proofs.Tests.{by-eq, both-and}
 use Rattle.logic.proofs.Members.{all-imp}
 use Rattle.fields.specs.declared.flow.Flow.{Flow}
 use Rattle.fields.specs.Flows.{noFlow}
-use Rattle.refusals.proofs.Walks.{before, walk-next}
+use Rattle.refusals.proofs.Walks.{before}
 use Rattle.lists.specs.Lists.{count, flowAt, flowsOf}
 use Rattle.lists.specs.Facts.{related}
-use Rattle.lists.proofs.Records.{length-flows, flow-is}
-use Rattle.accepting.specs.declared.pairs.Pair.{Pair}
+use Rattle.lists.proofs.Records.{flow-is}
 use Rattle.accepting.specs.declared.pairs.Pair.the-variants.{Number, Interval}
-use Rattle.accepting.specs.Parts.{agreesWith, refusalOf, Settled, OneOf, Chain, Kept, bit, Noted}
+use Rattle.accepting.specs.Parts.{agreesWith, OneOf, Chain, Kept, bit, Noted}
 use Rattle.accepting.proofs.Bits.{bit-set, bit-other}
 
 -- what holds of each entry passes the test
@@ -30,15 +29,9 @@ unfolding every
 all-every ok [] a = refl
 all-every ok (f ∷ fs) a = both-and (ok f) (every ok fs) (a .0) (all-every ok fs (a .1))
 
--- record i passes too, and what is noted of those before it and of it is noted of those before the next
-module _ (pair : Pair) (l : List ℕ) (i : ℕ) (f : Flow) (h : i < count l) (e : f ≡ flowAt l i) where
-  pub settled-next : agreesWith pair (before (flowsOf l) noFlow i) f ≡ true → Settled pair (flowsOf l) i → Settled pair (flowsOf l) (i + 1)
-  settled-next t s =
-      sym (walk-next (refusalOf pair) (agreesWith pair) (flowsOf l) noFlow i (rw (length-flows l) h) true (sym (sym (ap (agreesWith pair (before (flowsOf l) noFlow i)) (flow-is l i f h e)) ∙ t)) refl)
-      ∙ s
-
-  pub noted-next : (P : Flow → Type 0) → All P (before (flowsOf l) noFlow i) → P f → All P (before (flowsOf l) noFlow (i + 1))
-  noted-next P a p = rw (add-one i) (subst P (flow-is l i f h e) p, a)
+-- what is noted of the records before record i and of it is noted of those before the next
+pub noted-next : (P : Flow → Type 0) (l : List ℕ) (i : ℕ) (f : Flow) → i < count l → f ≡ flowAt l i → All P (before (flowsOf l) noFlow i) → P f → All P (before (flowsOf l) noFlow (i + 1))
+noted-next P l i f h e a p = rw (add-one i) (subst P (flow-is l i f h e) p, a)
 
 -- ---- the intervals that differ
 

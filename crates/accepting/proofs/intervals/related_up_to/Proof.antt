@@ -1,6 +1,7 @@
 -- `accepting::intervals::related_up_to` meets its contract.
 -- Assumes nothing.
-use mathlib.Core.Path.{_≡_, refl}
+use mathlib.Core.Path.{_≡_, refl, sym}
+use mathlib.Core.Bool.{true}
 use Prim.Native.Nat.{_-_, _≤_, _<_}
 use native.Mathlib.Omega.{arith}
 use lib.ListN.{length}
@@ -10,7 +11,8 @@ use Rattle.refusals.proofs.Walks.{before}
 use Rattle.lists.specs.Lists.{count, flowsOf}
 use Rattle.accepting.specs.declared.pairs.Pair.the-variants.{Interval}
 use Rattle.accepting.specs.Parts.{Settled, OneOf, Chain}
-use Rattle.accepting.proofs.Seen.{AllKept, settled-next, noted-next, all-kept, related-all}
+use Rattle.accepting.proofs.Verdicts.{settled-next}
+use Rattle.accepting.proofs.Seen.{AllKept, noted-next, all-kept, related-all}
 use Rattle.accepting.proofs.intervals.related_up_to.Statement.{statement}
 use Rattle.accepting.proofs.intervals.related_up_to.Tie as tie
 
@@ -60,8 +62,8 @@ loop-again c =
       search needs,
       j .few,
       j .chain,
-      noted-next Interval l (v .i) (f .result) inside (f .ensures) (λ f. OneOf (p .keep .last .0) (p .keep .result) (f .interval)) (all-kept es (v .kept) (v .k) (f .result) _ _ (v .inv .4) j) (j .one),
-      settled-next Interval l (v .i) (f .result) inside (f .ensures) (related-all es (v .kept) (v .k) (f .result) _ _ (v .inv .4) j) (v .inv .5),
+      noted-next (λ f. OneOf (p .keep .last .0) (p .keep .result) (f .interval)) l (v .i) (f .result) inside (f .ensures) (all-kept es (v .kept) (v .k) (f .result) _ _ (v .inv .4) j) (j .one),
+      settled-next Interval l (v .i) (v .inv .5) inside (f .result) (f .ensures) true (sym (related-all es (v .kept) (v .k) (f .result) _ _ (v .inv .4) j)) refl,
     )
 
 returns-2 : tie.Need-returns-2 Inv-loop μ-loop

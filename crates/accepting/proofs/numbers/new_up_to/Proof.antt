@@ -1,6 +1,7 @@
 -- `accepting::numbers::new_up_to` meets its contract.
 -- Assumes nothing.
-use mathlib.Core.Path.{_≡_, refl}
+use mathlib.Core.Path.{_≡_, refl, sym}
+use mathlib.Core.Bool.{true}
 use Prim.Native.Nat.{_-_, _≤_, _<_}
 use native.Mathlib.Omega.{arith}
 use lib.ListN.{length}
@@ -11,7 +12,8 @@ use Rattle.refusals.proofs.Walks.{before}
 use Rattle.lists.specs.Lists.{count, flowsOf}
 use Rattle.accepting.specs.declared.pairs.Pair.the-variants.{Number}
 use Rattle.accepting.specs.Parts.{Settled, bit}
-use Rattle.accepting.proofs.Seen.{AllNoted, settled-next, noted-next, all-noted, new-to-all}
+use Rattle.accepting.proofs.Verdicts.{settled-next}
+use Rattle.accepting.proofs.Seen.{AllNoted, noted-next, all-noted, new-to-all}
 use Rattle.accepting.proofs.numbers.new_up_to.Statement.{statement}
 use Rattle.accepting.proofs.numbers.new_up_to.Tie as tie
 
@@ -58,8 +60,8 @@ loop-again c =
     let es = before (flowsOf l) noFlow (v .i) in (
       omega arith,
       search needs,
-      noted-next Number l (v .i) (f .result) inside (f .ensures) (λ f. bit (p .note .last .0) (f .number) ≡ 1) (all-noted es (v .bits) (f .result) _ (v .inv .2) j) (j .one),
-      settled-next Number l (v .i) (f .result) inside (f .ensures) (new-to-all es (v .bits) (f .result) _ (v .inv .2) j) (v .inv .3),
+      noted-next (λ f. bit (p .note .last .0) (f .number) ≡ 1) l (v .i) (f .result) inside (f .ensures) (all-noted es (v .bits) (f .result) _ (v .inv .2) j) (j .one),
+      settled-next Number l (v .i) (v .inv .3) inside (f .result) (f .ensures) true (sym (new-to-all es (v .bits) (f .result) _ (v .inv .2) j)) refl,
     )
 
 returns-2 : tie.Need-returns-2 Inv-loop μ-loop
