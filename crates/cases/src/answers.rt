@@ -1,8 +1,8 @@
 // The line of each operation's answer.
 use crate::print;
-use hub::Edges;
 use refusals::Checked;
 use refusals::Written;
+use windows::Edges;
 
 // Refusal and place, the bytes written, and the sum of the whole room.
 fn made(name: &[u8], answer: Written, room: &[u8]) {
@@ -23,19 +23,19 @@ fn made(name: &[u8], answer: Written, room: &[u8]) {
 
 // Sheet to list.
 fn pack(input: &[u8], room: &mut [u8]) {
-    let answer = hub::list_from_sheet(input, room);
+    let answer = sheets::list_from_sheet(input, room);
     made(b"pack", answer, room);
 }
 
 // List to sheet.
 fn unpack(input: &[u8], room: &mut [u8]) {
-    let answer = hub::sheet_from_list(input, room);
+    let answer = sheets::sheet_from_list(input, room);
     made(b"write", answer, room);
 }
 
 // A plan.
 fn plan(input: &[u8], room: &mut [u8]) {
-    let answer = hub::plan(input, room);
+    let answer = planner::plan(input, room);
     made(b"plan", answer, room);
 }
 
@@ -55,7 +55,7 @@ pub fn write(op: u8, input: &[u8], room: &mut [u8]) {
 // Refusal and place.
 pub fn check(list: &[u8], table: &[u8]) {
     print::word(b"check");
-    let answer = hub::check(list, table);
+    let answer = checking::check(list, table);
     match answer {
         Checked::Refused(r) => print::refusal(r),
         Checked::Passed => print::word(b" 0 0"),
@@ -66,8 +66,8 @@ pub fn check(list: &[u8], table: &[u8]) {
 // Refusal and place, where the stretch starts and how many bytes it has.
 pub fn window(table: &[u8], a: u64, b: u64) {
     print::word(b"window");
-    let stretch = hub::window(table, a, b);
-    let edges = hub::edges_of(table, a, b);
+    let stretch = windows::window(table, a, b);
+    let edges = windows::edges_of(table, a, b);
     match edges {
         Edges::Refused(r) => {
             print::refusal(r);

@@ -5,19 +5,13 @@ mod print;
 mod stream;
 
 use libc::STDIN_FILENO;
-use stream::Got;
+use stream::STOPPED;
 
 // Reads a byte string and the length of a room, and answers an operation that writes. False where the stream stops inside the
 // case, or asks for more than there is.
 fn written(op: u8, input: &mut [u8], room: &mut [u8]) -> bool {
-    let length = stream::string(input);
-    let Got::Number(n) = length else {
-        return false;
-    };
-    let size = stream::number();
-    let Got::Number(k) = size else {
-        return false;
-    };
+    let n = stream::string(input);
+    let k = stream::number();
     if input.len() < n {
         return false;
     }
@@ -30,14 +24,8 @@ fn written(op: u8, input: &mut [u8], room: &mut [u8]) -> bool {
 
 // Reads a list and a table, and answers the check.
 fn checked(list: &mut [u8], table: &mut [u8]) -> bool {
-    let length = stream::string(list);
-    let Got::Number(n) = length else {
-        return false;
-    };
-    let size = stream::string(table);
-    let Got::Number(k) = size else {
-        return false;
-    };
+    let n = stream::string(list);
+    let k = stream::string(table);
     if list.len() < n {
         return false;
     }
@@ -50,19 +38,13 @@ fn checked(list: &mut [u8], table: &mut [u8]) -> bool {
 
 // Reads a table and the ends of a window, and answers it.
 fn windowed(table: &mut [u8]) -> bool {
-    let length = stream::string(table);
-    let Got::Number(n) = length else {
-        return false;
-    };
-    let from = stream::number();
-    let Got::Number(a) = from else {
-        return false;
-    };
-    let to = stream::number();
-    let Got::Number(b) = to else {
-        return false;
-    };
+    let n = stream::string(table);
+    let a = stream::number();
+    let b = stream::number();
     if table.len() < n {
+        return false;
+    }
+    if b == STOPPED {
         return false;
     }
     answers::window(&table[0..n], a as u64, b as u64);

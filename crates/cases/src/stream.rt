@@ -2,11 +2,8 @@
 ghost use Prim.Native.Nat.{_≤_};
 use libc::STDIN_FILENO;
 
-// What a read gives.
-pub enum Got {
-    Number(usize),
-    Nothing,
-}
+// What is read where the stream stops: larger than any number in it, and than any room.
+pub const STOPPED: usize = usize::MAX;
 
 // The same number.
 fn wide(b: u8) -> usize
@@ -16,30 +13,27 @@ fn wide(b: u8) -> usize
 }
 
 // Four bytes of the stream as a number, most significant first.
-pub fn number() -> Got {
+pub fn number() -> usize {
     let mut b = [0u8; 4];
     let n = io::read_full(STDIN_FILENO, &mut b);
     if n < 4 {
-        return Got::Nothing;
+        return STOPPED;
     }
     let high = wide(b[0]) * 256 + wide(b[1]);
     let low = wide(b[2]) * 256 + wide(b[3]);
-    Got::Number(high * 65536 + low)
+    high * 65536 + low
 }
 
-// Reads a byte string into the front of the room, and answers its length; nothing where the stream stops or the room is too
-// short.
-pub fn string(room: &mut [u8]) -> Got {
-    let size = number();
-    let Got::Number(n) = size else {
-        return Got::Nothing;
-    };
+// Reads a byte string into the front of the room, and answers its length, which is more than the room has where the string is
+// longer or the stream stops.
+pub fn string(room: &mut [u8]) -> usize {
+    let n = number();
     if room.len() < n {
-        return Got::Nothing;
+        return n;
     }
     let got = io::read_full(STDIN_FILENO, &mut room[0..n]);
     if got < n {
-        return Got::Nothing;
+        return STOPPED;
     }
-    Got::Number(n)
+    n
 }

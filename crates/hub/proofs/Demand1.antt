@@ -31,12 +31,12 @@ use Rattle.sheets.specs.Tests.{test20, sheetTests}
 use Rattle.sheets.specs.Answers.{listAnswer, sheetAnswer}
 use Rattle.tables.specs.Tables.{place, grantsOf}
 use Rattle.tables.specs.Form.{test11, test12, formTests}
-use Rattle.tables.specs.Window.{test19, windowTests}
+use Rattle.windows.specs.Window.{test19, windowTests}
 use Rattle.law.specs.Check.{test18, tests14to18, lawTests, check}
 use Rattle.planner.specs.Plan.{test8, test9, test10, planTests, planTable, planAnswer}
 use Rattle.hub.specs.Chains.{chain1to4, chain1to7, planChain, formChain, lawChain, checkChain, windowChain, roomTest, sheetChain, listChain}
 use Rattle.hub.specs.Statements.{Writes, Check, Window}
-use Rattle.tables.proofs.Contents.{one-stretch}
+use Rattle.windows.proofs.Contents.{one-stretch}
 use Rattle.planner.proofs.Passes.{plan-answers}
 
 -- ---- the chains are the operations' tests

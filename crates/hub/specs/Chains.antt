@@ -13,7 +13,7 @@ use Rattle.sheets.specs.Tests.{test20}
 use Rattle.lists.specs.Tests.{test1, test2, test3, test1exact, test4, test5, test6, test7}
 use Rattle.tables.specs.Tables.{grantsOf}
 use Rattle.tables.specs.Form.{test11, test12}
-use Rattle.tables.specs.Window.{test19}
+use Rattle.windows.specs.Window.{test19}
 use Rattle.law.specs.Check.{test13, test14, test15, test16, test17, test18}
 use Rattle.planner.specs.Plan.{test8, test9, test10}
 

@@ -5,8 +5,8 @@ use Rattle.refusals.specs.declared.Checked.the-variants.{Passed, Refused as Fau
 use Rattle.refusals.specs.declared.Written.{Written}
 use Rattle.refusals.specs.declared.Written.the-variants.{Bytes, Refused}
 use Rattle.refusals.specs.Refusals.{number, place}
-use Rattle.tables.specs.declared.stretch.Edges.{Edges}
-use Rattle.tables.specs.declared.stretch.Edges.the-variants.{Bytes as Between, Refused as Stopped}
+use Rattle.windows.specs.declared.stretch.Edges.{Edges}
+use Rattle.windows.specs.declared.stretch.Edges.the-variants.{Bytes as Between, Refused as Stopped}
 
 -- 0 when the work is done, otherwise the refusal's number
 abbrev pub code : Written → ℕ

@@ -8,7 +8,7 @@ use denote.Ref.{RefT}
 use Rattle.refusals.specs.declared.Checked.{Checked}
 use Rattle.refusals.specs.declared.Written.{Written}
 use Rattle.sheets.specs.Answers.{listAnswer, listRoom, sheetAnswer, sheetRoom}
-use Rattle.tables.specs.Window.{windowTests, edge, Stretch}
+use Rattle.windows.specs.Window.{windowTests, edge, Stretch}
 use Rattle.law.specs.Check.{check}
 use Rattle.planner.specs.Plan.{planAnswer, planRoom}
 

@@ -5,11 +5,11 @@ ghost use lib.ListN.{length};
 ghost use Rattle.sheets.specs.Answers.{listAnswer, listRoom, sheetAnswer, sheetRoom};
 ghost use Rattle.law.specs.Check.{check};
 ghost use Rattle.planner.specs.Plan.{planAnswer, planRoom};
-ghost use Rattle.tables.specs.Window.{edgesOf};
+ghost use Rattle.windows.specs.Window.{edgesOf};
 ghost use Rattle.hub.specs.Codes.{code, value, checkCode, checkValue, windowCode, windowFirst, windowBytes};
 use refusals::Checked;
 use refusals::Written;
-use tables::Edges;
+use windows::Edges;
 
 // What was written as a number, with the bytes or the place through the pointer.
 fn report(made: Written, out: &mut u64) -> u32
@@ -92,7 +92,7 @@ pub extern "C" fn snowploughy_window(
     ensures first { λ _. ⌜ now (first .exit) ≡ windowFirst (edgesOf (now (table .entry)) a b) ⌝ }
     ensures bytes { λ _. ⌜ now (bytes .exit) ≡ windowBytes (edgesOf (now (table .entry)) a b) ⌝ }
 {
-    let edges = tables::edges_of(table, a, b);
+    let edges = windows::edges_of(table, a, b);
     match edges {
         Edges::Bytes(i, e) => {
             *first = i as u64;

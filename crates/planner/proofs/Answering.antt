@@ -26,10 +26,10 @@ use Rattle.placing.specs.Rule.{Outcome, done, refused, Settled, layout, rows, p
 use Rattle.placing.proofs.Passes.{planned-done, planned-length, planned-fits, cycle-fits}
 use Rattle.layout.specs.declared.placed.Placed.{Placed}
 use Rattle.layout.specs.declared.placed.Placed.the-variants.{Lawful, NoFrame}
-use Rattle.planner.specs.Finished.{Finished}
+use Rattle.grouping.specs.Finished.{Finished}
 use Rattle.planner.specs.Rows.{written, Tabled}
 use Rattle.planner.specs.Plan.{test10, grantsPlanned, planTable}
-use Rattle.planner.proofs.Bounds.{frame-present, interval-le}
+use Rattle.grouping.proofs.Bounds.{frame-present, interval-le}
 use Rattle.planner.proofs.Printing.{table-written}
 use Rattle.tables.proofs.Meaning.{Fits, length-table}
 

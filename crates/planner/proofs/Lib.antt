@@ -1,10 +1,5 @@
-pub mod Rising
-pub mod Bounds
-pub mod Reaching
-pub mod Turns
 pub mod Ordering
 pub mod Queueing
-pub mod Housing
 pub mod Writing
 pub mod Tabling
 pub mod Printing

@@ -1,5 +1,3 @@
-pub mod Intervals
-pub mod Finished
 pub mod Rows
 pub mod Order
 pub mod Plan

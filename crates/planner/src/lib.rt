@@ -1,7 +1,5 @@
-// The planner: the flows of a packed list placed group by group, and the table of their grants.
+// The planner: tests 1 to 10 of a packed list, and the table of its grants.
 mod grants;
-mod groups;
-mod intervals;
 mod order;
 mod planning;
 

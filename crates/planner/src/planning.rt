@@ -9,7 +9,7 @@ ghost use Rattle.lists.specs.Accepted.{Accepted};
 ghost use Rattle.tables.specs.Tables.{place};
 ghost use Rattle.planner.specs.Plan.{test10, planTable, planAnswer, planRoom};
 use crate::grants::write_grants;
-use crate::groups::place_all;
+use grouping::place_all;
 use layout::Layout;
 use layout::Placed;
 use lists::Facts;

@@ -2,20 +2,15 @@
 use mathlib.Core.Path.{_≡_, refl}
 use mathlib.Core.List.{List, [], _∷_}
 use Prim.Native.Nat.{ℕ}
-use lib.ListN.{take, drop}
-use Rattle.logic.specs.Lists.{All}
-use Rattle.refusals.specs.declared.Refusal.the-variants.{WindowEnds}
-use Rattle.refusals.specs.declared.Checked.{Checked}
-use Rattle.refusals.specs.declared.Checked.the-variants.{Passed, Refused}
+use Rattle.refusals.specs.declared.Checked.the-variants.{Passed}
 use Rattle.refusals.specs.Tests.{lowest, against, after}
 use Rattle.fields.specs.Records.{packed, valuesOf}
 use Rattle.tables.specs.declared.packed.Grant.{Grant}
 use Rattle.tables.specs.Tables.{head, headOf, count, cycleOf, frameOf, valuesAt, grantAt, spareAt, grantsFrom, grantsOf, records, tableOf}
 use Rattle.tables.specs.Form.{headed, spared, formed, rises, test11, test12, formTests}
-use Rattle.tables.specs.Window.{test19, windowTests, before, startingIn, edge}
 
 -- starts 0 (flow 1), 1 (flow 2), 3 (flow 3), 6 (flow 1, late 2)
-abbrev caseA : List Grant
+abbrev pub caseA : List Grant
 caseA =
     record { flow = 1; start = 0; late = 0 }
     ∷ record { flow = 2; start = 1; late = 0 }
@@ -24,7 +19,7 @@ caseA =
     ∷ []
 
 -- with the cycle 8 and the frame 4, as bytes
-abbrev tableA : List ℕ
+abbrev pub tableA : List ℕ
 tableA =
     0x12 ∷ 0x00 ∷ 0x00 ∷ 0x04 ∷ 0x00 ∷ 0x08 ∷ 0x00 ∷ 0x04
     ∷ 0x00 ∷ 0x40 ∷ 0x00 ∷ 0x00 ∷ 0x00
@@ -37,23 +32,3 @@ tableA =
 pub table-A : (tableOf 8 4 caseA ≡ tableA) × (grantsOf tableA ≡ caseA) × (cycleOf tableA ≡ 8) × (frameOf tableA ≡ 4) × (formTests tableA ≡ Passed)
 unfolding packed valuesOf head headOf count cycleOf frameOf valuesAt grantAt spareAt grantsFrom grantsOf records tableOf headed spared formed lowest against after rises test11 test12 formTests
 table-A = (refl, refl, refl, refl, refl)
-
--- windows of it: their ends, what the tests say, and the bytes between which the stretch stands
-abbrev windows : List (ℕ × ℕ × Checked × ℕ × ℕ)
-windows =
-    (0, 8, Passed, 8, 28)
-    ∷ (1, 6, Passed, 13, 23)
-    ∷ (4, 6, Passed, 23, 23)
-    ∷ (7, 8, Passed, 28, 28)
-    ∷ (0, 9, Refused WindowEnds, 0, 0)
-    ∷ (5, 4, Refused WindowEnds, 0, 0)
-    ∷ []
-
-pub windows-A : All (λ w. (windowTests tableA (w .0) (w .1) ≡ w .2) × (edge (w .2) tableA (w .0) ≡ w .3) × (edge (w .2) tableA (w .1) ≡ w .4)) windows
-unfolding packed valuesOf head headOf count cycleOf frameOf valuesAt grantAt spareAt grantsFrom grantsOf records tableOf headed spared formed lowest against after rises test11 test12 formTests test19 windowTests before edge
-windows-A = ((refl, refl, refl), ((refl, refl, refl), ((refl, refl, refl), ((refl, refl, refl), ((refl, refl, refl), ((refl, refl, refl), tt))))))
-
--- the grants that start in a window
-pub starting-A : (startingIn 1 6 caseA ≡ take 2 (drop 1 caseA)) × (startingIn 4 6 caseA ≡ [])
-unfolding startingIn
-starting-A = (refl, refl)

@@ -16,7 +16,6 @@ use Rattle.refusals.proofs.Walks.{against-after}
 use Rattle.tables.specs.declared.packed.Grant.{Grant}
 use Rattle.tables.specs.Tables.{count, grantAt, spareAt, grantsFrom, grantsOf}
 use Rattle.tables.specs.Form.{spared, rises, test12}
-use Rattle.tables.specs.Window.{before}
 
 length-from : (t : List ℕ) (i n : ℕ) → length (grantsFrom t i n) ≡ n
 unfolding grantsFrom
@@ -68,15 +67,6 @@ module _ (t : List ℕ) (i n : ℕ) where
       unfolding rises
       rising-stop l = rising-turn last ∙ rw (← e) (lowest-here NotRising (i + 1) _ _ (le-ltb (last .start) (g .start) l))
 
-    module _ (a : ℕ) (g : Grant) (e : g ≡ grantAt t i) where
-      pub before-next : g .start < a → i + before a (grantsFrom t i (n - i)) ≡ i + 1 + before a (grantsFrom t (i + 1) (n - (i + 1)))
-      unfolding before
-      before-next l = rw (grants-next, ← e, lt-ltb (g .start) a l) (omega arith)
-
-      pub before-stop : a ≤ g .start → i + before a (grantsFrom t i (n - i)) ≡ i
-      unfolding before
-      before-stop l = rw (grants-next, ← e, le-ltb (g .start) a l) (omega arith)
-
   -- ---- there is none
 
   module _ (h : n ≤ i) where
@@ -91,7 +81,3 @@ module _ (t : List ℕ) (i n : ℕ) where
     pub rising-end : (last : Grant) → risingFrom last t i n ≡ Passed
     unfolding lowest against
     rising-end last = rw grants-end
-
-    pub before-end : (a : ℕ) → i + before a (grantsFrom t i (n - i)) ≡ i
-    unfolding before
-    before-end a = rw grants-end (omega arith)

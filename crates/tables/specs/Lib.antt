@@ -1,3 +1,2 @@
 pub mod Tables
 pub mod Form
-pub mod Window

@@ -1,9 +1,8 @@
-// A packed table of grants: its records, its form (tests 11 and 12) and the question for a window of it (test 19).
+// A packed table of grants: its records and its form (tests 11 and 12).
 //
 // Every record is handed to the field reader as a part of the slice. No function asks anything of its caller.
 mod form;
 mod packed;
-mod stretch;
 
 pub use form::form_tests;
 pub use packed::Grant;
@@ -13,7 +12,3 @@ pub use packed::frame;
 pub use packed::grant_at;
 pub use packed::write_head;
 pub use packed::write_record;
-pub use stretch::Edges;
-pub use stretch::edges_of;
-pub use stretch::window;
-pub use stretch::window_tests;

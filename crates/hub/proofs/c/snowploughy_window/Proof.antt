@@ -2,7 +2,7 @@
 -- Assumes nothing.
 use mathlib.Core.Path.{sym, ap, _∙_}
 use borrow.Author.Needs.{needs}
-use Rattle.tables.proofs.Windows.{edges-ordered}
+use Rattle.windows.proofs.Windows.{edges-ordered}
 use Rattle.hub.specs.Codes.{windowCode, windowFirst, windowBytes}
 use Rattle.hub.proofs.c.snowploughy_window.Statement.{statement}
 use Rattle.hub.proofs.c.snowploughy_window.Tie as tie

@@ -1,0 +1,4 @@
+pub mod Walk
+pub mod Windows
+pub mod Contents
+pub mod Cases
