@@ -2,6 +2,8 @@
 //
 // They write nothing. No public function asks anything of its caller.
 mod chain;
+mod intervals;
+mod numbers;
 mod pairs;
 
 pub use chain::tests_1_to_4;

@@ -6,7 +6,7 @@ ghost use Rattle.fields.specs.Flows.{noFlow};
 ghost use Rattle.refusals.proofs.Walks.{before};
 ghost use Rattle.lists.specs.Lists.{count, flowsOf};
 ghost use Rattle.lists.specs.Facts.{related};
-ghost use Rattle.accepting.specs.Parts.{agrees, agreesWith, refusalOf, pairTest};
+ghost use Rattle.accepting.specs.Parts.{agrees, agreesWith, refusalOf, pairTest, Settled};
 use fields::Flow;
 use lists::count;
 use lists::flow_at;
@@ -33,7 +33,7 @@ fn divides(a: u16, b: u16) -> bool
 }
 
 // The smaller interval divides the larger.
-fn related(a: u16, b: u16) -> bool
+pub fn related(a: u16, b: u16) -> bool
     ensures { λ r. ⌜ r ≡ related a b ⌝ }
 {
     if a < b {
@@ -77,12 +77,13 @@ fn refusal(pair: Pair, p: usize) -> Refusal
     }
 }
 
-// Test 5 or 6: the first record that does not agree with every earlier one.
-pub fn pair_test(pair: Pair, list: &[u8]) -> Checked
+// Test 5 or 6: the first record that does not agree with every earlier one. Those before record `start` are known to agree.
+pub fn pair_test(pair: Pair, list: &[u8], start: usize) -> Checked
+    requires { ⌜ Settled pair (flowsOf (now list)) start ⌝ }
     ensures { λ r. ⌜ r ≡ pairTest pair (flowsOf (now (list .entry))) ⌝ }
 {
     let n = count(list);
-    for i in 0..n {
+    for i in start..n {
         let f = flow_at(list, i);
         if !agrees_with_earlier(pair, list, i, f) {
             return Checked::Refused(refusal(pair, i + 1));

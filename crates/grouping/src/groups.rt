@@ -21,7 +21,7 @@ fn place_group(
     frame: u16,
     contents: &mut [u16],
     limits: &[u16],
-    frames: &mut [u16],
+    frames: &mut [u8],
 ) -> Placed
     requires { ⌜ count (now list) ≤ length (now frames) ⌝ }
     requires { ⌜ (length (now limits) ≡ length (now contents)) × (length (now contents) ≤ 256) × (length (now contents) * frame < 65536) ⌝ }
@@ -43,7 +43,7 @@ fn settle_group(
     frame: u16,
     contents: &[u16],
     limits: &mut [u16],
-    frames: &[u16],
+    frames: &[u8],
     bases: &mut [u16],
 )
     requires { ⌜ (count (now list) ≤ length (now frames)) × (count (now list) ≤ length (now bases)) ⌝ }
@@ -66,7 +66,7 @@ fn add_group(
     width: usize,
     contents: &mut [u16],
     limits: &mut [u16],
-    frames: &mut [u16],
+    frames: &mut [u8],
     bases: &mut [u16],
 ) -> Placed
     requires { ⌜ (count (now list) ≤ length (now frames)) × (count (now list) ≤ length (now bases)) ⌝ }
@@ -90,7 +90,7 @@ pub fn place_all(
     frame: u16,
     contents: &mut [u16],
     limits: &mut [u16],
-    frames: &mut [u16],
+    frames: &mut [u8],
     bases: &mut [u16],
 ) -> Placed
     requires { ⌜ (count (now list) ≤ length (now frames)) × (count (now list) ≤ length (now bases)) ⌝ }

@@ -8,7 +8,7 @@ ghost use Rattle.layout.specs.Cells.{free};
 pub struct Layout {
     pub contents: [u16; 256],
     pub limits: [u16; 256],
-    pub frames: [u16; 128],
+    pub frames: [u8; 128],
     pub bases: [u16; 128],
 }
 

@@ -17,7 +17,7 @@ pub fn place(
     frame: u16,
     contents: &mut [u16],
     limits: &[u16],
-    frames: &mut [u16],
+    frames: &mut [u8],
 ) -> bool
     requires { ⌜ (length (now limits) ≡ length (now contents)) × (length (now contents) ≤ 256) × (length (now contents) * frame < 65536) × (j < length (now frames)) ⌝ }
     ensures { λ r. ⌜ stepOf r (now (contents .exit)) (now (frames .exit)) ≡ step frame interval j (now (contents .entry)) (now (limits .entry)) (now (frames .entry)) f ⌝ }
@@ -32,7 +32,7 @@ pub fn place(
         return false;
     };
     contents[k] = contents[k] + size;
-    frames[j] = k as u16;
+    frames[j] = k as u8;
     true
 }
 
@@ -51,7 +51,7 @@ pub fn settle(
     frame: u16,
     contents: &[u16],
     limits: &mut [u16],
-    frames: &[u16],
+    frames: &[u8],
     bases: &mut [u16],
 )
     requires { ⌜ (length (now limits) ≡ length (now contents)) × (length (now contents) ≤ 256) × (j < length (now frames)) × (j < length (now bases)) ⌝ }

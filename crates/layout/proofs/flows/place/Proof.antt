@@ -61,9 +61,6 @@ slice-write-contents c = omega (arith, found (c .before .before))
 cast-frames : tie.Need-cast-frames
 cast-frames c = omega (arith, found (c .before .before))
 
-mul-frames : tie.Need-mul-frames
-mul-frames c = search needs
-
 slice-write-frames : tie.Need-slice-write-frames
 slice-write-frames c = search needs
 
@@ -99,7 +96,6 @@ place-spec =
     mul-contents-2
     slice-write-contents
     cast-frames
-    mul-frames
     slice-write-frames
     same-length-2
     same-length-3

@@ -20,9 +20,6 @@ base c = simp sub-zero at (c .overhang .ensures)
 returns : tie.Need-returns
 returns c = let a = c .before .before .before .before .before .args in sym (stamp-other (a .frame) (a .interval) (a .j) (a .contents .now) (a .limits .now) (a .frames .now) (a .bases .now) (a .f) (c .if1 .taken))
 
-mul-k : tie.Need-mul-k
-mul-k c = search needs
-
 shared-slice-read-k : tie.Need-shared-slice-read-k
 shared-slice-read-k c = search needs
 
@@ -89,7 +86,6 @@ settle-spec =
     tie.close
     (tie.spec
     returns
-    mul-k
     shared-slice-read-k
     cast-k
     sub-overhang
