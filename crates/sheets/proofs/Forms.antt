@@ -1,15 +1,14 @@
 -- A line is read exactly where it is a line: what the reader takes is what document 01 says, and nothing else. Assumes nothing.
-use mathlib.Core.Path.{_≡_, refl, sym, ap, ap₂, _∙_}
-use mathlib.Core.Bool.{_&&_}
+use mathlib.Core.Path.{_≡_, refl, sym, ap, ap₂, subst, _∙_}
 use mathlib.Core.Logic.{_↔_}
-use mathlib.Core.List.{List, [], _∷_, _++_, append-assoc}
+use mathlib.Core.List.{List, [], _∷_, _++_, append-assoc, append-nil}
 use Prim.Native.Nat.{ℕ, _+_, _≤_, _<_}
 use native.Mathlib.Omega.{arith}
 use lib.Dec.{eqb, lit<}
 use lib.ListN.{length, drop, length-drop, drop-of-length-le}
 use lib.Seq.{drop-at, drop-drop}
 use borrow.Author.Tests.{eq-eqb, eqb-true}
-use Rattle.logic.proofs.Tests.{by-test, and-both}
+use Rattle.logic.proofs.Tests.{by-test}
 use Rattle.fields.specs.declared.flow.Flow.{Flow}
 use Rattle.words.specs.declared.number.Number.{Number}
 use Rattle.words.specs.declared.number.Number.the-variants.{Is, Nothing}
@@ -17,46 +16,50 @@ use Rattle.words.specs.Words.{starts}
 use Rattle.words.specs.Numerals.{digit}
 use Rattle.words.specs.Numbers.{run, numberAfter}
 use Rattle.words.specs.Decimals.{decimal}
-use Rattle.words.proofs.Words.{starts-split, starts-append}
+use Rattle.words.proofs.Words.{starts-split, starts-append, starts-le}
 use Rattle.words.proofs.Numerals.{numeral-decimal, decimal-numeral}
 use Rattle.words.proofs.Texts.{after-stands, after-written}
-use Rattle.sheets.specs.declared.line.Line.{Line}
 use Rattle.sheets.specs.declared.line.Line.the-variants.{Of, Bad}
+use Rattle.sheets.specs.declared.line.LineAt.{LineAt}
 use Rattle.sheets.specs.Texts.{flow, size, every, jitter, feed, piece, line}
 use Rattle.sheets.specs.Form.{LineOf}
-use Rattle.sheets.specs.Readings.{found, ended, read}
-use Rattle.sheets.proofs.Texts.{piece-is, line-is}
-use Rattle.sheets.proofs.Readings.{read-is}
+use Rattle.sheets.specs.Readings.{read}
+use Rattle.sheets.specs.Reader.{goodAt, badAt, foundAt, endedAt, lineAt}
+use Rattle.sheets.proofs.Texts.{piece-is, line-is, length-line}
+use Rattle.sheets.proofs.Readings.{line-at-is, whole, read-whole}
 
 -- ---- what is read
 
-never : (P : Type 0) (f : Flow) → Bad ≡ Of f → P
+-- a bad line says no flow
+pub never : (P : Type 0) (f : Flow) → Bad ≡ Of f → P
 never P f e = let z : _≡_ {A = ℕ} 0 1 = cc in absurd (omega arith)
 
--- a number was found
-record Found (m : Number) (next : ℕ → ℕ → Line) (f : Flow) : Type 0 where
+-- a number was found, and x is what follows
+record Found (x : LineAt) (m : Number) (next : ℕ → ℕ → LineAt) : Type 0 where
   value : ℕ
   place : ℕ
   is : m ≡ Is value place
-  goes : next value place ≡ Of f
+  goes : x ≡ next value place
 
-found-of : (m : Number) (next : ℕ → ℕ → Line) (f : Flow) → found m next ≡ Of f → Found m next f
-found-of (Is v n) next f e = record { value = v; place = n; is = refl; goes = e }
-found-of Nothing next f e = never _ f e
+-- x says the flow f
+module _ (x : LineAt) (f : Flow) (e : x .line ≡ Of f) where
+  found-of : (p : ℕ) (m : Number) (next : ℕ → ℕ → LineAt) → x ≡ foundAt p m next → Found x m next
+  found-of p (Is v n) next q = record { value = v; place = n; is = refl; goes = q }
+  found-of p Nothing next q = never _ f (ap (λ (y : LineAt). y .line) (sym q) ∙ e)
 
--- only a line feed was left
-ended-of : (at : ℕ) (l : List ℕ) (g f : Flow) → at ≤ length l → ended at l g ≡ Of f → (g ≡ f) × (drop at l ≡ feed)
-unfolding ended
-ended-of at l g f h e =
-    by-test (starts feed (drop at l) && eqb (length l) (at + 1))
-    (λ t.
-    let i : Of g ≡ Of f = rw t at e in
-    let both = and-both (starts feed (drop at l)) (eqb (length l) (at + 1)) t in
-    let long : length l ≡ at + 1 = eqb-true (length l) (at + 1) (both .1) in
-    let rest : drop 1 (drop at l) ≡ [] = drop-of-length-le (drop at l) {i = 1} (omega (arith, length-drop at l)) in
-    let same : g ≡ f = cc in
-    (same, starts-split feed (drop at l) (both .0) ∙ ap (λ (x : List ℕ). feed ++ x) rest))
-    (λ t. let i : Bad ≡ Of f = rw t at e in never _ f i)
+  -- a line feed stood there
+  ended-of : (at : ℕ) (s : List ℕ) (g : Flow) → at ≤ length s → x ≡ endedAt at s g
+      → (g ≡ f) × (x .end ≡ at + 1) × (at + 1 ≤ length s) × (drop at s ≡ feed ++ drop (at + 1) s)
+  unfolding endedAt
+  ended-of at s g h q =
+      by-test (starts feed (drop at s))
+      (λ t.
+      let good : x ≡ goodAt g (at + 1) = rw t at q in
+      let i : Of g ≡ Of f = ap (λ (y : LineAt). y .line) (sym good) ∙ e in
+      let same : g ≡ f = cc in
+      let one : 1 ≤ length (drop at s) = starts-le feed (drop at s) t in
+      (same, ap (λ (y : LineAt). y .end) good, omega (arith, length-drop at s), starts-split feed (drop at s) t ∙ ap (λ (y : List ℕ). feed ++ y) (drop-drop 1 at s)))
+      (λ t. let bad : x ≡ badAt at = rw t at q in never _ f (ap (λ (y : LineAt). y .line) (sym bad) ∙ e))
 
 -- a piece that stands in the text, and what follows it
 stands : (w : List ℕ) (v : ℕ) (rest s : List ℕ) (p n : ℕ) → drop p s ≡ (w ++ decimal v) ++ drop n s → drop n s ≡ rest → drop p s ≡ piece w v ++ rest
@@ -66,26 +69,47 @@ stands w v rest s p n e r = e ∙ ap₂ (λ (x y : List ℕ). x ++ y) (sym (piec
 abbrev pub Short : Flow → Type 0
 Short f = (f .number < 10000) × (f .size < 10000) × (f .interval < 10000) × (f .jitter < 10000)
 
--- what is read is the line of its flow
-read-is-line : (s : List ℕ) (f : Flow) → read s ≡ Of f → Short f × (s ≡ line f)
-read-is-line s f e =
-    let n = found-of (numberAfter 0 flow s) _ f (sym (read-is s) ∙ e) in
-    let a = after-stands 0 flow s (n .value) (n .place) (n .is) in
-    let z = found-of (numberAfter (n .place) size s) _ f (n .goes) in
+-- the line of a flow and a text behind it, piece by piece
+line-then : (f : Flow) (rest : List ℕ)
+    → line f ++ rest
+    ≡ piece flow (f .number) ++ (piece size (f .size) ++ (piece every (f .interval) ++ (piece jitter (f .jitter) ++ (feed ++ rest))))
+line-then f rest = ap (λ (x : List ℕ). x ++ rest) (line-is f) ∙ simp append-assoc
+
+-- what is read at a place is the line of its flow, and the end is behind it
+pub line-at-line : (at : ℕ) (s : List ℕ) (f : Flow) → lineAt at s .line ≡ Of f
+    → Short f × (lineAt at s .end ≤ length s) × (drop at s ≡ line f ++ drop (lineAt at s .end) s)
+line-at-line at s f e =
+    let x : LineAt = lineAt at s in
+    let n = found-of x f e at (numberAfter at flow s) _ (line-at-is at s) in
+    let a = after-stands at flow s (n .value) (n .place) (n .is) in
+    let z = found-of x f e (n .place) (numberAfter (n .place) size s) _ (n .goes) in
     let b = after-stands (n .place) size s (z .value) (z .place) (z .is) in
-    let i = found-of (numberAfter (z .place) every s) _ f (z .goes) in
+    let i = found-of x f e (z .place) (numberAfter (z .place) every s) _ (z .goes) in
     let d = after-stands (z .place) every s (i .value) (i .place) (i .is) in
-    let j = found-of (numberAfter (i .place) jitter s) _ f (i .goes) in
+    let j = found-of x f e (i .place) (numberAfter (i .place) jitter s) _ (i .goes) in
     let g = after-stands (i .place) jitter s (j .value) (j .place) (j .is) in
-    let read-flow : Flow = record { number = n .value; size = z .value; interval = i .value; jitter = j .value } in
-    let o = ended-of (j .place) s read-flow f (g .0) (j .goes) in
-    rw (← o .0) (
-      (a .1, b .1, d .1, g .1),
-      stands flow (n .value) _ s 0 (n .place) (a .2)
-          (stands size (z .value) _ s (n .place) (z .place) (b .2)
-          (stands every (i .value) _ s (z .place) (i .place) (d .2) (stands jitter (j .value) feed s (i .place) (j .place) (g .2) (o .1))))
-          ∙ sym (line-is _),
-    )
+    let said : Flow = record { number = n .value; size = z .value; interval = i .value; jitter = j .value } in
+    let o = ended-of x f e (j .place) s said (g .0) (j .goes) in
+    let text : drop at s ≡ line said ++ drop (j .place + 1) s =
+    stands flow (n .value) _ s at (n .place) (a .2)
+    (stands size (z .value) _ s (n .place) (z .place) (b .2)
+    (stands every (i .value) _ s (z .place) (i .place) (d .2) (stands jitter (j .value) _ s (i .place) (j .place) (g .2) (o .3))))
+    ∙ sym (line-then said (drop (j .place + 1) s)) in
+    let short : Short said = (a .1, b .1, d .1, g .1) in
+    (subst Short (o .0) short, omega (arith, o .1, o .2), text ∙ ap₂ (λ (y : Flow) (k : ℕ). line y ++ drop k s) (o .0) (sym (o .1)))
+
+-- nothing was left behind it
+whole-of : (x : LineAt) (n : ℕ) (f : Flow) → whole x n ≡ Of f → (x .line ≡ Of f) × (n ≡ x .end)
+whole-of x n f e =
+    by-test (eqb n (x .end)) (λ t. (rw t at e, eqb-true n (x .end) t)) (λ t. let i : Bad ≡ Of f = rw t at e in never _ f i)
+
+-- a text that is read as a line is the line of its flow
+pub read-is-line : (s : List ℕ) (f : Flow) → read s ≡ Of f → Short f × (s ≡ line f)
+read-is-line s f e =
+    let w = whole-of (lineAt 0 s) (length s) f (sym (read-whole s) ∙ e) in
+    let is = line-at-line 0 s f (w .0) in
+    let none : drop (lineAt 0 s .end) s ≡ [] = drop-of-length-le s {i = lineAt 0 s .end} (omega (arith, w .1)) in
+    (is .0, is .2 ∙ ap (λ (x : List ℕ). line f ++ x) none ∙ append-nil (line f))
 
 -- ---- a line is the line of its flow
 
@@ -151,26 +175,35 @@ piece-found w v rest s p small none e = (
   sym (drop-drop (length (piece w v)) p s) ∙ ap (drop (length (piece w v))) e ∙ drop-at (piece w v) rest (length (piece w v)) refl,
 )
 
-ended-feed : (at : ℕ) (l : List ℕ) (f : Flow) → drop at l ≡ feed → ended at l f ≡ Of f
-unfolding ended
-ended-feed at l f e =
-    let long : length l ≡ at + 1 = omega (arith, ap length e, length-drop at l) in
-    rw (ap (starts feed) e ∙ starts-append feed [], eq-eqb (length l) (at + 1) long)
+ended-feed : (at : ℕ) (s rest : List ℕ) (f : Flow) → drop at s ≡ feed ++ rest → endedAt at s f ≡ goodAt f (at + 1)
+unfolding endedAt
+ended-feed at s rest f e = rw (ap (starts feed) e ∙ starts-append feed rest)
 
-pub read-line : (f : Flow) → Short f → read (line f) ≡ Of f
-read-line f h =
-    let s : List ℕ = line f in
-    let r₃ : List ℕ = piece jitter (f .jitter) ++ feed in
+-- at a place of a sheet
+pub line-at-reads : (at : ℕ) (s rest : List ℕ) (f : Flow) → Short f → drop at s ≡ line f ++ rest → lineAt at s ≡ goodAt f (at + length (line f))
+line-at-reads at s rest f h t =
+    let r₄ : List ℕ = feed ++ rest in
+    let r₃ : List ℕ = piece jitter (f .jitter) ++ r₄ in
     let r₂ : List ℕ = piece every (f .interval) ++ r₃ in
     let r₁ : List ℕ = piece size (f .size) ++ r₂ in
-    let a : ℕ = 0 + length (piece flow (f .number)) in
+    let a : ℕ = at + length (piece flow (f .number)) in
     let b : ℕ = a + length (piece size (f .size)) in
     let d : ℕ = b + length (piece every (f .interval)) in
-    let n = piece-found flow (f .number) r₁ s 0 (h .0) (run-piece size (f .size) r₂ (words-run .0) (lit< tt)) (line-is f) in
+    let e : ℕ = d + length (piece jitter (f .jitter)) in
+    let n = piece-found flow (f .number) r₁ s at (h .0) (run-piece size (f .size) r₂ (words-run .0) (lit< tt)) (t ∙ line-then f rest) in
     let z = piece-found size (f .size) r₂ s a (h .1) (run-piece every (f .interval) r₃ (words-run .1) (lit< tt)) (n .1) in
-    let i = piece-found every (f .interval) r₃ s b (h .2) (run-piece jitter (f .jitter) feed (words-run .2) (lit< tt)) (z .1) in
-    let j = piece-found jitter (f .jitter) feed s d (h .3) (words-run .3) (i .1) in
-    read-is s ∙ rw (n .0, z .0, i .0, j .0) (ended-feed (d + length (piece jitter (f .jitter))) s f (j .1))
+    let i = piece-found every (f .interval) r₃ s b (h .2) (run-piece jitter (f .jitter) r₄ (words-run .2) (lit< tt)) (z .1) in
+    let j = piece-found jitter (f .jitter) r₄ s d (h .3) (run-word feed rest (words-run .3) (lit< tt)) (i .1) in
+    let end : e + 1 ≡ at + length (line f) = omega (arith, length-line f) in
+    line-at-is at s ∙ rw (n .0, z .0, i .0, j .0) (ended-feed e s rest f (j .1)) ∙ ap (goodAt f) end
+
+-- and by itself
+pub read-line : (f : Flow) → Short f → read (line f) ≡ Of f
+read-line f h =
+    let all : length (line f) ≡ 0 + length (line f) = omega arith in
+    read-whole (line f)
+    ∙ ap (λ (x : LineAt). whole x (length (line f))) (line-at-reads 0 (line f) [] f h (sym (append-nil (line f))))
+    ∙ rw (eq-eqb (length (line f)) (0 + length (line f)) all)
 
 -- ---- both together
 

@@ -1,62 +1,16 @@
 -- Lines taken one after another. Assumes nothing.
-use mathlib.Core.Path.{_≡_, refl, ap, _∙_}
+use mathlib.Core.Path.{_≡_, refl, sym, ap, _∙_}
 use mathlib.Core.Bool.{Bool, true, false, cond, false≢true}
 use mathlib.Core.List.{List, [], _∷_, _++_}
-use Prim.Native.Nat.{ℕ, suc, _+_, _-_, _≤_, _<_, zero-le}
-use native.Mathlib.Nat.{not-suc-le-zero}
-use native.Mathlib.Numerals.{add-one}
+use Prim.Native.Nat.{ℕ, _<_}
 use native.Mathlib.Omega.{arith}
 use lib.Dec.{eqb}
-use lib.ListN.{length, getD, take, drop, drop-of-length-le, length-drop}
-use lib.Seq.{drop-cons, drop-drop}
+use lib.ListN.{length}
 use borrow.Author.Tests.{ne-eqb, eqb-false}
 use Rattle.logic.specs.Lists.{All}
 use Rattle.logic.proofs.Tests.{by-test}
 use Rattle.words.specs.Numerals.{Digit}
-use Rattle.sheets.specs.Lines.{lineSize, before, lines}
-
--- ---- the size of the first line
-
-pub size-le : (s : List ℕ) → lineSize s ≤ length s
-unfolding lineSize
-size-le [] = zero-le
-size-le (b ∷ s) = by-test (eqb b 10) (λ e. rw (e, lineSize) (omega arith)) (λ e. rw (e, lineSize) (omega (arith, size-le s)))
-
-pub size-pos : (s : List ℕ) → 0 < length s → 0 < lineSize s
-unfolding lineSize
-size-pos [] h = absurd (not-suc-le-zero h)
-size-pos (b ∷ s) h = by-test (eqb b 10) (λ e. rw (e, lineSize) (omega arith)) (λ e. rw (e, lineSize) (omega arith))
-
-module _ (s : List ℕ) (i : ℕ) (h : i < length s) where
-  pub size-feed : getD s i 0 ≡ 10 → lineSize (drop i s) ≡ 1
-  unfolding lineSize
-  size-feed e = rw (drop-cons s i 0, e)
-
-  pub size-other : (getD s i 0 ≡ 10 → ⊥) → lineSize (drop i s) ≡ suc (lineSize (drop (i + 1) s))
-  unfolding lineSize
-  size-other n = rw (add-one, drop-cons s i 0, ne-eqb (getD s i 0) 10 n)
-
-pub size-end : (s : List ℕ) (i : ℕ) → length s ≤ i → lineSize (drop i s) ≡ 0
-unfolding lineSize
-size-end s i h = rw (drop-of-length-le s h)
-
--- ---- the lines
-
--- the first line, and those of what follows it
-lines-first : (s : List ℕ) → 0 < length s → lines s ≡ take (lineSize s) s ∷ lines (drop (lineSize s) s)
-unfolding lines lineSize before
-lines-first [] h = absurd (not-suc-le-zero h)
-lines-first (b ∷ []) h = by-test (eqb b 10) (λ e. rw (e, lines, lineSize)) (λ e. rw (e, lines, lineSize))
-lines-first (b ∷ a ∷ s) h =
-    by-test (eqb b 10) (λ e. rw (e, lines, lineSize))
-    (λ e. rw (e, lines, lineSize) (ap (before b) (lines-first (a ∷ s) (omega arith))))
-
--- a turn of a loop over them
-pub lines-next : (s : List ℕ) (at e : ℕ) → at < length s → e ≡ at + lineSize (drop at s) → lines (drop at s) ≡ take (e - at) (drop at s) ∷ lines (drop e s)
-lines-next s at e h q =
-    let d : e - at ≡ lineSize (drop at s) = omega arith in
-    lines-first (drop at s) (omega (arith, length-drop at s))
-    ∙ rw (d, q) (ap (λ (x : List ℕ). take (lineSize (drop at s)) (drop at s) ∷ lines x) (drop-drop (lineSize (drop at s)) at s))
+use Rattle.sheets.specs.Lines.{before, lines}
 
 -- lines one after another make the text again
 unfoldable pub joined : List (List ℕ) → List ℕ
@@ -74,6 +28,16 @@ joined-lines [] = refl
 joined-lines (b ∷ s) =
     by-test (eqb b 10) (λ e. rw (e, lines) (ap (λ (x : List ℕ). b ∷ x) (joined-lines s)))
     (λ e. rw (e, lines) (joined-before b (lines s) ∙ ap (λ (x : List ℕ). b ∷ x) (joined-lines s)))
+
+-- of a text that is not empty there is a first line
+some-line : (ls : List (List ℕ)) (s : List ℕ) → joined ls ≡ s → 0 < length s
+    → (l : List ℕ) × (rest : List (List ℕ)) × (ls ≡ l ∷ rest) × (s ≡ l ++ joined rest)
+unfolding joined
+some-line [] s e h = absurd (omega (arith, ap length e))
+some-line (l ∷ rest) s e h = (l, rest, refl, sym e)
+
+pub lines-some : (s : List ℕ) → 0 < length s → (l : List ℕ) × (rest : List (List ℕ)) × (lines s ≡ l ∷ rest) × (s ≡ l ++ joined rest)
+lines-some s h = some-line (lines s) s (joined-lines s) h
 
 -- no line feed stands in the text
 abbrev pub Unbroken : List ℕ → Type 0

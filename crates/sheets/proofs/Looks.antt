@@ -1,9 +1,10 @@
 -- One look through the lines of a sheet: how many there are, and tests 20 and 4 so far. Assumes nothing.
 use mathlib.Core.Path.{_≡_, refl, sym, ap, _∙_}
+use mathlib.Core.Bool.{true, false}
 use mathlib.Core.List.{List, map}
-use Prim.Native.Nat.{ℕ, _+_, _-_, _≤_, _<_}
+use Prim.Native.Nat.{ℕ, _+_, _≤_, _<_}
 use native.Mathlib.Omega.{arith}
-use lib.ListN.{length, take, drop}
+use lib.ListN.{length, drop}
 use Rattle.fields.specs.declared.flow.Flow.{Flow}
 use Rattle.fields.specs.Flows.{keeps}
 use Rattle.refusals.specs.declared.Refusal.the-variants.{Field, Line as AtLine}
@@ -13,12 +14,12 @@ use Rattle.refusals.specs.Tests.{_⟫_, unless, lowest}
 use Rattle.refusals.proofs.Chains.{chain-assoc, chain-passed}
 use Rattle.refusals.proofs.Lowest.{lowest-first, lowest-next, lowest-here}
 use Rattle.lists.specs.Tests.{test4}
-use Rattle.sheets.specs.declared.line.Line.{Line}
 use Rattle.sheets.specs.declared.line.Line.the-variants.{Of, Bad}
-use Rattle.sheets.specs.Lines.{lineSize}
-use Rattle.sheets.specs.Readings.{ofForm, flowIn, read, readings, flowsIn}
+use Rattle.sheets.specs.declared.line.LineAt.{LineAt}
+use Rattle.sheets.specs.Readings.{ofForm, readings, flowsIn}
+use Rattle.sheets.specs.Reader.{lineAt}
 use Rattle.sheets.specs.Tests.{test20}
-use Rattle.sheets.proofs.Walk.{line-within, says, flows-next, readings-done, flows-done}
+use Rattle.sheets.proofs.Walk.{line-within, says, says-bad, flows-next, readings-done, flows-done}
 
 -- the look stands at a place: n lines are behind it, all good, and `rules` is what test 4 says of them
 pub record LookAt (s : List ℕ) (at n : ℕ) (rules : Checked) : Type 0 where
@@ -43,27 +44,27 @@ module _ (s : List ℕ) (at n : ℕ) (rules : Checked) (look : LookAt s at n rul
         look .rules-left ∙ rw none (chain-passed rules),
       )
 
-  -- at a line, which says x
-  module _ (e : ℕ) (h : at < length s) (q : e ≡ at + lineSize (drop at s)) (x : Line) (g : x ≡ read (take (e - at) (drop at s))) where
-    pub look-bad : x ≡ Bad → test20 s ≡ Refused (AtLine (n + 1))
-    look-bad b =
-        look .form-left ∙ rw (says s at e h q x g)
-        (lowest-here AtLine (n + 1) (ofForm x) (map ofForm (readings (drop e s))) (ap ofForm b))
+  -- at a line, where x is read
+  module _ (x : LineAt) (g : x ≡ lineAt at s) where
+    pub look-bad : at < length s → x .line ≡ Bad → test20 s ≡ Refused (AtLine (n + 1))
+    look-bad h b =
+        let bad = says-bad s at x g h b in
+        look .form-left ∙ rw (bad .1) (lowest-here AtLine (n + 1) false (map ofForm (bad .0)) refl)
 
-    pub look-next : (f : Flow) (new : Checked) → x ≡ Of f → new ≡ (rules ⟫ unless (keeps f) (Field (n + 1))) → LookAt s e (n + 1) new
+    pub look-next : (f : Flow) (new : Checked) → x .line ≡ Of f → new ≡ (rules ⟫ unless (keeps f) (Field (n + 1))) → LookAt s (x .end) (n + 1) new
     look-next f new o r =
-        let w = line-within s at e h q in
-        let next = flows-next s at e h q x g f (sym (ap flowIn o)) in
+        let w = line-within s at x g f o in
+        let next = flows-next s at x g f o in
         record {
           inside = w .1;
           few = omega (arith, w .0, look .few);
           lines-left = omega (arith, look .lines-left, ap length next);
           form-left =
-              look .form-left ∙ rw (says s at e h q x g)
-              (lowest-next AtLine (n + 1) (ofForm x) (map ofForm (readings (drop e s))) (ap ofForm o));
+              look .form-left ∙ rw (says s at x g f o)
+              (lowest-next AtLine (n + 1) true (map ofForm (readings (drop (x .end) s))) refl);
           rules-left =
               look .rules-left ∙ rw next
-              (ap (λ (a : Checked). rules ⟫ a) (lowest-first Field (n + 1) (keeps f) (map keeps (flowsIn (drop e s))))
+              (ap (λ (a : Checked). rules ⟫ a) (lowest-first Field (n + 1) (keeps f) (map keeps (flowsIn (drop (x .end) s))))
               ∙ sym (chain-assoc rules (unless (keeps f) (Field (n + 1))) _)
-              ∙ ap (λ (a : Checked). a ⟫ lowest Field (n + 1 + 1) (map keeps (flowsIn (drop e s)))) (sym r));
+              ∙ ap (λ (a : Checked). a ⟫ lowest Field (n + 1 + 1) (map keeps (flowsIn (drop (x .end) s)))) (sym r));
         }

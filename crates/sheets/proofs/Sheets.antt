@@ -2,7 +2,7 @@
 use mathlib.Core.Path.{_≡_, refl, sym, ap, ap₂, _∙_}
 use mathlib.Core.Bool.{true, true≢false}
 use mathlib.Core.Logic.{_↔_}
-use mathlib.Core.List.{List, [], _∷_, _++_, append-assoc, map}
+use mathlib.Core.List.{List, [], _∷_, _++_, map}
 use Prim.Native.Nat.{ℕ}
 use native.Mathlib.Omega.{arith}
 use Rattle.logic.specs.Lists.{All}
@@ -13,37 +13,18 @@ use Rattle.refusals.specs.declared.Refusal.the-variants.{Line as AtLine}
 use Rattle.refusals.specs.declared.Checked.the-variants.{Passed}
 use Rattle.refusals.specs.Tests.{lowest}
 use Rattle.refusals.proofs.Lowest.{Pass, pass-lowest, lowest-pass}
-use Rattle.words.specs.Decimals.{decimal}
-use Rattle.words.proofs.Decimals.{decimal-digits}
 use Rattle.sheets.specs.declared.line.Line.{Line}
 use Rattle.sheets.specs.declared.line.Line.the-variants.{Of, Bad}
-use Rattle.sheets.specs.Texts.{flow, size, every, jitter, feed, piece, line, text}
+use Rattle.sheets.specs.Texts.{line, text}
 use Rattle.sheets.specs.Form.{SheetOf}
 use Rattle.sheets.specs.Lines.{lines}
 use Rattle.sheets.specs.Readings.{ofForm, flowIn, read, readings, flowsIn}
 use Rattle.sheets.specs.Tests.{test20}
-use Rattle.sheets.proofs.Lines.{joined, joined-lines, Unbroken, lines-line, unbroken-append, unbroken-digits, feedless, unbroken-by}
-use Rattle.sheets.proofs.Readings.{readings-is, readings-none, flows-is}
-use Rattle.sheets.proofs.Texts.{piece-is, line-is, text-none, text-is}
-use Rattle.sheets.proofs.Forms.{Short, read-line-of, line-of-is, line-line-of, read-line}
-
--- ---- the line of a flow has one line feed, at its end
-
-unbroken-piece : (w : List ℕ) (v : ℕ) → feedless w ≡ true → Unbroken (piece w v)
-unbroken-piece w v e = rw (piece-is w v) (unbroken-append w (decimal v) (unbroken-by w e) (unbroken-digits (decimal v) (decimal-digits v)))
-
-line-first : (f : Flow) (s : List ℕ) → lines (line f ++ s) ≡ line f ∷ lines s
-line-first f s =
-    let p₁ : List ℕ = piece flow (f .number) in
-    let p₂ : List ℕ = piece size (f .size) in
-    let p₃ : List ℕ = piece every (f .interval) in
-    let p₄ : List ℕ = piece jitter (f .jitter) in
-    let e : line f ≡ (p₁ ++ (p₂ ++ (p₃ ++ p₄))) ++ feed = line-is f ∙ simp append-assoc in
-    rw e
-    (lines-line (p₁ ++ (p₂ ++ (p₃ ++ p₄))) s
-    (unbroken-append p₁ _ (unbroken-piece flow (f .number) refl)
-    (unbroken-append p₂ _ (unbroken-piece size (f .size) refl)
-    (unbroken-append p₃ _ (unbroken-piece every (f .interval) refl) (unbroken-piece jitter (f .jitter) refl)))))
+use Rattle.sheets.proofs.Lines.{joined, joined-lines}
+use Rattle.sheets.proofs.Readings.{readings-none, flows-is}
+use Rattle.sheets.proofs.Texts.{text-none, text-is}
+use Rattle.sheets.proofs.Forms.{Short, read-line-of, line-of-is, line-line-of}
+use Rattle.sheets.proofs.Walk.{reads-first}
 
 -- ---- what a sheet of flows says
 
@@ -52,10 +33,9 @@ says-flows [] s e = ap readings e ∙ readings-none
 says-flows (f ∷ fs) s h =
     let is = line-of-is f (h .0) (h .2) in
     let rest : List ℕ = h .1 in
-    readings-is s
-    ∙ ap (λ (x : List ℕ). map read (lines x)) (h .4 ∙ ap (λ (l : List ℕ). l ++ rest) (is .1))
-    ∙ ap (map read) (line-first f rest)
-    ∙ ap₂ (λ (x : Line) (xs : List Line). x ∷ xs) (read-line f (is .0)) (sym (readings-is rest) ∙ says-flows fs rest (h .3))
+    ap readings (h .4 ∙ ap (λ (l : List ℕ). l ++ rest) (is .1))
+    ∙ reads-first f rest (is .0)
+    ∙ ap (λ (xs : List Line). Of f ∷ xs) (says-flows fs rest (h .3))
 
 all-formed : (fs : List Flow) → Pass (map ofForm (map Of fs))
 all-formed [] = tt

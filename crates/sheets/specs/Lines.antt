@@ -1,15 +1,8 @@
 -- The lines of a text, each with its line feed: "a rest without one counts as a line". Assumes nothing.
-use Prim.Native.Nat.{ℕ, suc}
+use Prim.Native.Nat.{ℕ}
 use mathlib.Core.Bool.{cond}
 use mathlib.Core.List.{List, [], _∷_}
 use lib.Dec.{eqb}
-
--- how many bytes the first line has
-unfoldable pub lineSize : List ℕ → ℕ
-lineSize [] = 0
-lineSize (b ∷ s) =
-    let r = lineSize s in
-    cond (eqb b 10) 1 (suc r)
 
 -- a byte in front of the first line
 unfoldable pub before : ℕ → List (List ℕ) → List (List ℕ)

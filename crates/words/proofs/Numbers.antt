@@ -1,22 +1,22 @@
 -- Digits and the number that they make, and a number at a place of a text. Assumes nothing.
 use mathlib.Core.Path.{_≡_, refl, sym, ap, ap₂, _∙_}
-use mathlib.Core.Bool.{true, false, not, true≢false}
+use mathlib.Core.Bool.{true, false, not, true≢false, and-false}
 use mathlib.Core.List.{List, [], _∷_}
-use Prim.Native.Nat.{ℕ, suc, _+_, _-_, _*_, _≤_, _<_, zero-le}
-use native.Mathlib.Nat.{le-refl, le-trans}
+use Prim.Native.Nat.{ℕ, zero, suc, _+_, _-_, _*_, _≤_, _<_, zero-le}
+use native.Mathlib.Nat.{le-refl}
 use native.Mathlib.Numerals.{add-one}
 use native.Mathlib.Omega.{arith}
-use lib.Dec.{leb, ltb, eqb}
-use lib.ListN.{length, getD, take, drop, drop-of-length-le, length-drop}
+use lib.Dec.{leb, ltb, eqb, lit<, lit≤}
+use lib.ListN.{length, getD, take, drop, drop-of-length-le, length-drop, length-take, List·getD-eq-default}
 use lib.Seq.{drop-cons}
-use borrow.Author.Tests.{lt-ltb, lt-leb, le-leb, ne-eqb, leb-true, ltb-true}
+use borrow.Author.Tests.{lt-ltb, le-ltb, lt-leb, le-leb, ne-eqb, leb-true, ltb-true}
 use Rattle.logic.specs.Lists.{All}
 use Rattle.logic.proofs.Parts.{part-to-end}
 use Rattle.logic.proofs.Tests.{by-test, by-lt, and-both}
 use Rattle.words.specs.declared.number.Number.the-variants.{Is, Nothing}
 use Rattle.words.specs.Words.{starts}
 use Rattle.words.specs.Numerals.{Digit, digit, value}
-use Rattle.words.specs.Numbers.{run, formed, numberOf, numberAt, numberAfter}
+use Rattle.words.specs.Numbers.{run, formed, goesOn, numberOf, numberAt, numberAfter}
 use Rattle.words.proofs.Words.{starts-le}
 
 -- a digit is a byte from 48 to 57
@@ -84,30 +84,6 @@ value-small (a ∷ b ∷ c ∷ []) d h = omega arith
 value-small (a ∷ b ∷ c ∷ e ∷ []) d h = omega arith
 value-small (a ∷ b ∷ c ∷ e ∷ f ∷ s) d h = absurd (omega arith)
 
--- more digits make no smaller number
-value-le : (n : ℕ) (s : List ℕ) → n ≤ value n s
-unfolding value
-value-le n [] = le-refl n
-value-le n (b ∷ s) = le-trans (omega arith) (value-le (n * 10 + (b - 48)) s)
-
--- all that are left are digits
-module _ (s : List ℕ) (i : ℕ) (h : i < length s) (all : run (drop i s) ≡ length (drop i s)) where
-  all-digit : digit (getD s i 0) ≡ true
-  all-digit =
-      by-test (digit (getD s i 0)) (λ e. e)
-      (λ e. let z = run-other s i h e in absurd (omega (arith, length-drop i s)))
-
-  all-rest : run (drop (i + 1) s) ≡ length (drop (i + 1) s)
-  all-rest = omega (arith, run-digit s i h all-digit, length-drop i s, length-drop (i + 1) s)
-
-value-step : (n : ℕ) (s : List ℕ) (i : ℕ) → i < length s → value n (drop i s) ≡ value (n * 10 + (getD s i 0 - 48)) (drop (i + 1) s)
-unfolding value
-value-step n s i h = rw (add-one, drop-cons s i 0)
-
-pub value-end : (n : ℕ) (s : List ℕ) (i : ℕ) → length s ≤ i → value n (drop i s) ≡ n
-unfolding value
-value-end n s i h = rw (drop-of-length-le s h)
-
 -- ---- the form of a number
 
 module _ (ds : List ℕ) where
@@ -134,49 +110,126 @@ formed-some ds f = by-lt 0 (length ds) (λ h. h) (λ h. absurd (true≢false (sy
 pub formed-le : (ds : List ℕ) → formed ds ≡ true → length ds ≤ 4
 formed-le ds f = by-lt 4 (length ds) (λ h. absurd (true≢false (sym f ∙ formed-long ds h))) (λ h. h)
 
--- a turn of the loop that reads at most four digits: the byte is one, and the number stays below 10,000
-abbrev pub ValueTurn : List ℕ → ℕ → ℕ → Type 0
-ValueTurn s n i =
-    (48 ≤ getD s i 0) × (n * 10 + (getD s i 0 - 48) < 10000) × (run (drop (i + 1) s) ≡ length (drop (i + 1) s))
-    × (value (n * 10 + (getD s i 0 - 48)) (drop (i + 1) s) ≡ value 0 s)
+-- ---- digits read one after another
 
-pub value-turn : (s : List ℕ) (n i : ℕ) → i < length s → run s ≡ length s → length s ≤ 4 → run (drop i s) ≡ length (drop i s) → value n (drop i s) ≡ value 0 s
-    → ValueTurn s n i
-value-turn s n i h all four left inv =
-    let m : ℕ = n * 10 + (getD s i 0 - 48) in
-    let e : value m (drop (i + 1) s) ≡ value 0 s = sym (value-step n s i h) ∙ inv in (
-      digit-range _ (all-digit s i h left) .0,
-      omega (arith, value-le m (drop (i + 1) s), value-small s (run-digits s all) four),
-      all-rest s i h left,
-      e,
-    )
+module _ (s : List ℕ) (at e : ℕ) where
+  pub goes-many : 5 ≤ e - at → goesOn at e s ≡ false
+  unfolding goesOn
+  goes-many h = rw (le-ltb (e - at) 5 h)
 
--- ---- a number at a place of the text
+  pub goes-end : length s ≤ e → goesOn at e s ≡ false
+  unfolding goesOn
+  goes-end h = rw (List·getD-eq-default s 0 {n = e} h, digit-low 0 (lit< tt)) (and-false (ltb (e - at) 5))
 
--- what the calls give: k digits stand there, and they are a number or not
-module _ (s : List ℕ) (at k : ℕ) (inside : at ≤ length s) (ran : k ≡ run (take (length s - at) (drop at s))) where
-  ran-rest : k ≡ run (drop at s)
-  ran-rest = rw part-to-end at ran
+  pub goes-digit : e - at < 5 → goesOn at e s ≡ digit (getD s e 0)
+  unfolding goesOn
+  goes-digit h = rw (lt-ltb (e - at) 5 h)
 
-  pub ran-le : at + k ≤ length s
-  ran-le = omega (arith, ran-rest, run-le (drop at s), length-drop at s)
+  -- where it goes on
+  goes-true : goesOn at e s ≡ true → (e - at < 5) × (e < length s) × (digit (getD s e 0) ≡ true)
+  unfolding goesOn
+  goes-true t =
+      let both = and-both (ltb (e - at) 5) (digit (getD s e 0)) t in (
+        ltb-true (e - at) 5 (both .0),
+        by-lt e (length s) (λ h. h) (λ h. absurd (true≢false (sym t ∙ goes-end h))),
+        both .1,
+      )
 
-  ran-part : take (at + k - at) (drop at s) ≡ take (run (drop at s)) (drop at s)
-  ran-part = let e : at + k - at ≡ run (drop at s) = omega (arith, ran-rest) in rw e
+  -- where it does not, before the fifth
+  goes-false : goesOn at e s ≡ false → e - at < 5 → run (drop e s) ≡ 0
+  goes-false f h = by-lt e (length s) (λ l. run-other s e l (sym (goes-digit h) ∙ f)) (λ l. run-end s e l)
 
-  pub ran-digits : run (take (at + k - at) (drop at s)) ≡ length (take (at + k - at) (drop at s))
-  ran-digits = rw ran-part (run-take (drop at s))
+-- one and k zeros
+abbrev tens : ℕ → ℕ
+tens zero = 1
+tens (suc k) = tens k * 10
 
-  pub number-none : formed (take (at + k - at) (drop at s)) ≡ false → Nothing ≡ numberAt at s
-  unfolding numberAt numberOf
-  number-none f = let f′ = rw ran-part at f in rw f′
+tens-le : (k : ℕ) → k < 5 → tens k ≤ 10000
+tens-le zero h = lit≤ tt
+tens-le (suc zero) h = lit≤ tt
+tens-le (suc (suc zero)) h = lit≤ tt
+tens-le (suc (suc (suc zero))) h = lit≤ tt
+tens-le (suc (suc (suc (suc zero)))) h = lit≤ tt
+tens-le (suc (suc (suc (suc (suc k))))) h = absurd (omega arith)
 
-  pub number-found : (v : ℕ) → formed (take (at + k - at) (drop at s)) ≡ true → v ≡ value 0 (take (at + k - at) (drop at s)) → Is v (at + k) ≡ numberAt at s
-  unfolding numberAt numberOf
-  number-found v f e =
-      let f′ = rw ran-part at f in
-      let e′ = rw ran-part at e in
-      rw f′ (ap₂ (λ (x y : ℕ). Is x (at + y)) e′ ran-rest)
+-- v is read of the digits that begin at a place, and those from e on are left
+pub record ReadTo (s : List ℕ) (at e v : ℕ) : Type 0 where
+  pub from : at ≤ e
+  pub few : e ≤ at + 5
+  pub inside : e ≤ length s
+  pub small : v < tens (e - at)
+  pub ran : e + run (drop e s) ≡ at + run (drop at s)
+  pub says : value v (take (run (drop e s)) (drop e s)) ≡ value 0 (take (run (drop at s)) (drop at s))
+
+pub read-start : (s : List ℕ) (at : ℕ) → at ≤ length s → ReadTo s at at 0
+read-start s at h =
+    let none : at - at ≡ 0 = omega arith in
+    record { from = le-refl at; few = omega arith; inside = h; small = rw none (lit< tt); ran = refl; says = refl }
+
+value-next : (v : ℕ) (s : List ℕ) (e : ℕ) → e < length s → digit (getD s e 0) ≡ true
+    → value v (take (run (drop e s)) (drop e s)) ≡ value (v * 10 + (getD s e 0 - 48)) (take (run (drop (e + 1) s)) (drop (e + 1) s))
+unfolding value run
+value-next v s e h d = rw (add-one, drop-cons s e 0, d)
+
+module _ (s : List ℕ) (at e v : ℕ) (read : ReadTo s at e v) where
+  -- a digit more: the byte is one, and the number stays below 100,000
+  pub read-next : goesOn at e s ≡ true
+      → (48 ≤ getD s e 0) × (v * 10 + (getD s e 0 - 48) < 100000) × ReadTo s at (e + 1) (v * 10 + (getD s e 0 - 48))
+  read-next t =
+      let goes = goes-true s at e t in
+      let d = digit-range (getD s e 0) (goes .2) in
+      let few : tens (e - at) ≤ 10000 = tens-le (e - at) (goes .0) in
+      let more : e + 1 - at ≡ suc (e - at) = omega (arith, read .from) in
+      let below : v * 10 + (getD s e 0 - 48) < tens (e - at) * 10 = omega (arith, read .small, d .0, d .1) in (
+        d .0,
+        omega (arith, few, below),
+        record {
+          from = omega (arith, read .from);
+          few = omega (arith, goes .0, read .from);
+          inside = omega (arith, goes .1);
+          small = rw more below;
+          ran = omega (arith, read .ran, run-digit s e (goes .1) (goes .2));
+          says = sym (value-next v s e (goes .1) (goes .2)) ∙ read .says;
+        },
+      )
+
+  -- where the reading ends
+  module _ (f : goesOn at e s ≡ false) where
+    -- fewer than five digits are all that there are
+    all-read : e - at < 5 → (e - at ≡ run (drop at s)) × (v ≡ value 0 (take (run (drop at s)) (drop at s)))
+    unfolding value
+    all-read h =
+        let none = goes-false s at e f h in
+        (omega (arith, none, read .ran, read .from), rw none at (read .says))
+
+    length-read : length (take (e - at) (drop at s)) ≡ e - at
+    length-read = omega (arith, length-take (e - at) (drop at s), length-drop at s, read .inside)
+
+    pub read-none : formed (take (e - at) (drop at s)) ≡ false → Nothing ≡ numberAt at s
+    unfolding numberAt numberOf
+    read-none w =
+        by-lt (e - at) 5
+        (λ h. let w′ = rw (all-read h .0) at w in rw w′)
+        (λ h.
+        let long : 4 < length (take (run (drop at s)) (drop at s)) =
+        omega (arith, h, read .ran, length-take (run (drop at s)) (drop at s), run-le (drop at s)) in
+        rw (formed-long (take (run (drop at s)) (drop at s)) long))
+
+    -- the digits are a number
+    module _ (w : formed (take (e - at) (drop at s)) ≡ true) where
+      four : e - at < 5
+      four = omega (arith, formed-le (take (e - at) (drop at s)) w, length-read)
+
+      pub read-small : v < 10000
+      read-small = omega (arith, read .small, tens-le (e - at) four)
+
+      pub read-found : Is v e ≡ numberAt at s
+      unfolding numberAt numberOf
+      read-found =
+          let all = all-read four in
+          let end : e ≡ at + run (drop at s) = omega (arith, all .0, read .from) in
+          let w′ = rw (all .0) at w in
+          rw w′ (ap₂ Is (all .1) end)
 
 -- ---- a number behind a word
 

@@ -1,5 +1,5 @@
 -- A number at a place of a text, and behind a word. Assumes nothing.
-use Prim.Native.Nat.{ℕ, suc, _+_}
+use Prim.Native.Nat.{ℕ, suc, _+_, _-_}
 use mathlib.Core.Bool.{Bool, cond, _&&_, _||_, not}
 use mathlib.Core.List.{List, [], _∷_}
 use lib.Dec.{ltb, leb, eqb}
@@ -19,6 +19,10 @@ run (b ∷ s) =
 -- 1 to 4 digits, with no leading zero except "0" itself
 unfoldable pub formed : List ℕ → Bool
 formed ds = (ltb 0 (length ds) && leb (length ds) 4) && (eqb (length ds) 1 || not (eqb (getD ds 0 0) 48))
+
+-- the reading of digits that begin at a place goes on at another: fewer than five bytes lie between, and a digit stands there
+unfoldable pub goesOn : ℕ → ℕ → List ℕ → Bool
+goesOn at e s = ltb (e - at) 5 && digit (getD s e 0)
 
 -- the number that the digits are, with the place behind them
 unfoldable pub numberOf : ℕ → List ℕ → Number

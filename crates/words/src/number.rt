@@ -2,8 +2,8 @@
 ghost use mathlib.Core.Path.{_≡_};
 ghost use Prim.Native.Nat.{_≤_};
 ghost use lib.ListN.{length};
-ghost use Rattle.words.specs.Numerals.{digit, value};
-ghost use Rattle.words.specs.Numbers.{run, formed, numberAt, numberAfter};
+ghost use Rattle.words.specs.Numerals.{digit};
+ghost use Rattle.words.specs.Numbers.{formed, goesOn, numberAt, numberAfter};
 use crate::word::begins;
 
 // What a reader of a number finds: its value and the place behind it.
@@ -22,18 +22,18 @@ fn is_digit(b: u8) -> bool
     b < 58
 }
 
-// How many digits the text begins with.
-fn run(s: &[u8]) -> usize
-    ensures { λ r. ⌜ r ≡ run (now (s .entry)) ⌝ }
+// A digit stands at the second place, with fewer than five bytes from the first to it.
+fn goes_on(s: &[u8], at: usize, e: usize) -> bool
+    requires { ⌜ at ≤ e ⌝ }
+    ensures { λ r. ⌜ r ≡ goesOn at e (now (s .entry)) ⌝ }
 {
-    let mut i = 0;
-    while i < s.len() {
-        if !is_digit(s[i]) {
-            return i;
-        }
-        i += 1;
+    if 5 <= e - at {
+        return false;
     }
-    i
+    if s.len() <= e {
+        return false;
+    }
+    is_digit(s[e])
 }
 
 // The digits are 1 to 4, with no leading zero except "0" itself.
@@ -52,32 +52,22 @@ fn formed(s: &[u8]) -> bool
     s[0] != 48
 }
 
-// The number that at most four digits make.
-fn value(s: &[u8]) -> u16
-    requires { ⌜ (run (now s) ≡ length (now s)) × (length (now s) ≤ 4) ⌝ }
-    ensures { λ r. ⌜ r ≡ value 0 (now (s .entry)) ⌝ }
-{
-    let mut n: u16 = 0;
-    for i in 0..s.len() {
-        let d = (s[i] - 48) as u16;
-        n = n * 10 + d;
-    }
-    n
-}
-
-// The number that stands at a place of the text.
+// The number that stands at a place of the text. Its digits are gone through once; a fifth one is too many already.
 fn number_at(s: &[u8], at: usize) -> Number
     requires { ⌜ at ≤ length (now s) ⌝ }
     ensures { λ r. ⌜ r ≡ numberAt at (now (s .entry)) ⌝ }
 {
-    let end = s.len();
-    let k = run(&s[at..end]);
-    let e = at + k;
+    let mut v: u32 = 0;
+    let mut e = at;
+    while goes_on(s, at, e) {
+        let d = (s[e] - 48) as u32;
+        v = v * 10 + d;
+        e += 1;
+    }
     if !formed(&s[at..e]) {
         return Number::Nothing;
     }
-    let v = value(&s[at..e]);
-    Number::Is(v, e)
+    Number::Is(v as u16, e)
 }
 
 // The number behind a word that stands at a place of the text.

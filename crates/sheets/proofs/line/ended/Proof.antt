@@ -2,7 +2,7 @@
 -- Assumes nothing.
 use mathlib.Core.Path.{sym, _∙_}
 use borrow.Author.Tests.{not-true, not-false}
-use Rattle.sheets.proofs.Readings.{ended-no, ended-long, ended-yes}
+use Rattle.sheets.proofs.Readings.{ended-no, ended-yes}
 use borrow.Author.Needs.{needs}
 use Rattle.sheets.proofs.line.ended.Statement.{statement}
 use Rattle.sheets.proofs.line.ended.Tie as tie
@@ -27,16 +27,13 @@ returns c =
     let b = c .before in
     sym (ended-no _ (b .before .before .before .before .args .at) _ (sym (b .begins .ensures) ∙ not-true _ (c .if1 .taken)))
 
-add-if2 : tie.Need-add-if2
-add-if2 c = search needs
+add-t8 : tie.Need-add-t8
+add-t8 c = search needs
 
 returns-2 : tie.Need-returns-2
-returns-2 c = sym (ended-long _ _ _ (c .if2 .taken))
-
-returns-3 : tie.Need-returns-3
-returns-3 c =
-    let b = c .before .before in
-    sym (ended-yes _ (b .before .before .before .before .args .at) _ (sym (b .begins .ensures) ∙ not-false _ (c .before .if1 .left)) (c .if2 .left))
+returns-2 c =
+    let b = c .before in
+    sym (ended-yes _ (b .before .before .before .before .args .at) _ (sym (b .begins .ensures) ∙ not-false _ (c .if1 .left)))
 
 pub ended-spec : {M : Type 1} → statement M
 ended-spec =
@@ -48,6 +45,5 @@ ended-spec =
     slice-aggregate-begins
     begins-requires
     returns
-    add-if2
-    returns-2
-    returns-3)
+    add-t8
+    returns-2)

@@ -1,94 +1,130 @@
 -- `words::number::number_at` meets its contract.
 -- Assumes nothing.
 use mathlib.Core.Path.{_≡_, sym, _∙_}
-use Prim.Native.Nat.{_+_, _-_, _≤_}
+use mathlib.Core.Bool.{true, false}
+use Prim.Native.Nat.{_+_, _-_, _*_, _≤_, _<_}
 use native.Mathlib.Omega.{arith}
-use mathlib.Core.Bool.{true}
-use lib.ListN.{length, take, drop}
+use lib.ListN.{length, getD, take, drop}
 use borrow.Author.Tests.{not-true, not-false}
-use Rattle.words.specs.Numbers.{formed}
-use Rattle.words.proofs.Numbers.{ran-le, ran-digits, number-none, number-found, formed-le}
+use Rattle.words.specs.Numbers.{formed, goesOn}
+use Rattle.words.proofs.Numbers.{ReadTo, read-start, read-next, read-none, read-small, read-found}
 use borrow.Author.Needs.{needs}
 use Rattle.words.proofs.number.number_at.Statement.{statement}
 use Rattle.words.proofs.number.number_at.Tie as tie
 
-sub-run : tie.Need-sub-run
-sub-run c = search needs
+abbrev Inv-loop : tie.InvT-loop
+Inv-loop s at v₀ e₀ v e = ReadTo s at e v
 
-part-run-start : tie.Need-part-run-start
-part-run-start c = search needs
+abbrev μ-loop : tie.MeasureT-loop
+μ-loop s at v₀ e₀ v e = length s - e
 
-part-run-end : tie.Need-part-run-end
-part-run-end c = search needs
+loop-holds : tie.Need-loop-holds Inv-loop μ-loop
+loop-holds c = let s = c .before in read-start (s .args .s .now) (s .args .at) (s .pre)
 
-run-requires : tie.Need-run-requires
-run-requires c κs = search needs
+goes-on-requires : tie.Need-goes-on-requires Inv-loop μ-loop
+goes-on-requires c κs = c .loop .inv .from
 
--- they end inside the text
-inside : (c : tie.After-run) → c .before .before .before .args .at + c .run .result ≤ length (c .before .before .before .args .s .now)
-inside c = ran-le (c .before .before .before .args .s .now) _ _ (c .before .before .before .pre) (c .run .ensures)
+-- a digit more
+turn : (c : tie.After-shared-slice-known2 Inv-loop μ-loop) → let l = c .before .before .before in
+    let s = l .before .before .args in
+    let b = getD (s .s .now) (l .loop .e) 0 in
+    (48 ≤ b) × (l .loop .v * 10 + (b - 48) < 100000) × ReadTo (s .s .now) (s .at) (l .loop .e + 1) (l .loop .v * 10 + (b - 48))
+turn c =
+    let g = c .before .before in
+    let l = g .before in
+    let s = l .before .before .args in
+    read-next (s .s .now) (s .at) (l .loop .e) (l .loop .v) (l .loop .inv) (sym (g .goes-on .ensures) ∙ c .before .if1 .taken)
 
-add-e : tie.Need-add-e
-add-e c = omega (arith, inside c)
+shared-slice-read-d : tie.Need-shared-slice-read-d Inv-loop μ-loop
+shared-slice-read-d c = omega (arith, turn c .2 .inside)
 
-sub-formed : tie.Need-sub-formed
-sub-formed c = search needs
+sub-d : tie.Need-sub-d Inv-loop μ-loop
+sub-d c = omega (arith, turn c .0)
 
-part-formed-start : tie.Need-part-formed-start
-part-formed-start c = search needs
+cast-d : tie.Need-cast-d Inv-loop μ-loop
+cast-d c = omega (arith, c .shared-slice-known2 .given (c .before .before .before .loop .e))
 
-part-formed-end : tie.Need-part-formed-end
-part-formed-end c = omega (arith, inside c)
+mul-v : tie.Need-mul-v Inv-loop μ-loop
+mul-v c = omega (arith, turn c .1)
 
-formed-requires : tie.Need-formed-requires
+add-v : tie.Need-add-v Inv-loop μ-loop
+add-v c = omega (arith, turn c .1)
+
+add-e : tie.Need-add-e Inv-loop μ-loop
+add-e c = omega (arith, turn c .2 .inside)
+
+loop-less : tie.Need-loop-less Inv-loop μ-loop
+loop-less c = omega (arith, turn c .2 .inside)
+
+loop-again : tie.Need-loop-again Inv-loop μ-loop
+loop-again c = turn c .2
+
+sub-formed : tie.Need-sub-formed Inv-loop μ-loop
+sub-formed c = c .before .before .loop .inv .from
+
+part-formed-start : tie.Need-part-formed-start Inv-loop μ-loop
+part-formed-start c = c .before .before .loop .inv .from
+
+part-formed-end : tie.Need-part-formed-end Inv-loop μ-loop
+part-formed-end c = c .before .before .loop .inv .inside
+
+formed-requires : tie.Need-formed-requires Inv-loop μ-loop
 formed-requires c κs = search needs
 
-returns : tie.Need-returns
-returns c =
-    let r = c .before .before .before in
-    number-none _ _ _ (r .before .before .before .pre) (r .run .ensures) (sym (c .before .formed .ensures) ∙ not-true _ (c .if1 .taken))
+-- no digit is left, or too many are read
+stops : (c : tie.Else1 Inv-loop μ-loop) → let l = c .before .before in
+    let s = l .before .before .args in
+    goesOn (s .at) (l .loop .e) (s .s .now) ≡ false
+stops c = sym (c .before .goes-on .ensures) ∙ c .if1 .left
 
 -- the digits are a number
-well : (c : tie.Else1) → let r = c .before .before .before in
-    let a = r .before .before .before .args in
-    formed (take (a .at + r .run .result - a .at) (drop (a .at) (a .s .now))) ≡ true
-well c = sym (c .before .formed .ensures) ∙ not-false _ (c .if1 .left)
+well : (c : tie.Else2 Inv-loop μ-loop) → let l = c .before .before .before .before .before in
+    let s = l .before .before .args in
+    formed (take (l .loop .e - s .at) (drop (s .at) (s .s .now))) ≡ true
+well c = sym (c .before .formed .ensures) ∙ not-false _ (c .if2 .left)
 
-sub-value : tie.Need-sub-value
-sub-value c = search needs
+returns : tie.Need-returns Inv-loop μ-loop
+returns c =
+    let f = c .before in
+    let x = f .before .before in
+    let l = x .before .before in
+    let s = l .before .before in
+    read-none (s .args .s .now) (s .args .at) (l .loop .e) (l .loop .v) (l .loop .inv) (stops x) (sym (f .formed .ensures) ∙ not-true _ (c .if2 .taken))
 
-part-value-start : tie.Need-part-value-start
-part-value-start c = search needs
+cast-t17 : tie.Need-cast-t17 Inv-loop μ-loop
+cast-t17 c =
+    let x = c .before .before .before in
+    let l = x .before .before in
+    let s = l .before .before in
+    omega (arith, read-small (s .args .s .now) (s .args .at) (l .loop .e) (l .loop .v) (l .loop .inv) (stops x) (well c))
 
-part-value-end : tie.Need-part-value-end
-part-value-end c = part-formed-end (c .before .before .before)
-
-value-requires : tie.Need-value-requires
-value-requires c κs =
-    let r = c .before .before .before .before in
-    (ran-digits _ _ _ (r .before .before .before .pre) (r .run .ensures), formed-le _ (well (c .before)))
-
-returns-2 : tie.Need-returns-2
+returns-2 : tie.Need-returns-2 Inv-loop μ-loop
 returns-2 c =
-    let r = c .before .before .before .before .before in
-    number-found _ _ _ (r .before .before .before .pre) (r .run .ensures) (c .value .result) (well (c .before .before)) (c .value .ensures)
+    let x = c .before .before .before in
+    let l = x .before .before in
+    let s = l .before .before in
+    read-found (s .args .s .now) (s .args .at) (l .loop .e) (l .loop .v) (l .loop .inv) (stops x) (well c)
 
 pub number-at-spec : {M : Type 1} → statement M
 number-at-spec =
     tie.close
     (tie.spec
-    sub-run
-    part-run-start
-    part-run-end
-    run-requires
+    Inv-loop
+    μ-loop
+    loop-holds
+    goes-on-requires
+    shared-slice-read-d
+    sub-d
+    cast-d
+    mul-v
+    add-v
     add-e
+    loop-less
+    loop-again
     sub-formed
     part-formed-start
     part-formed-end
     formed-requires
     returns
-    sub-value
-    part-value-start
-    part-value-end
-    value-requires
+    cast-t17
     returns-2)

@@ -1,4 +1,4 @@
--- `sheets::line::read` meets its contract.
+-- `sheets::line::line_at` meets its contract.
 -- Assumes nothing.
 use mathlib.Core.Path.{_≡_, sym, _∙_}
 use mathlib.Core.List.{List}
@@ -7,17 +7,17 @@ use Rattle.words.specs.declared.number.Number.the-variants.{Is}
 use Rattle.words.specs.Numbers.{numberAfter}
 use Rattle.words.proofs.Texts.{after-stands}
 use Rattle.sheets.specs.Texts.{flow, size, every, jitter}
-use Rattle.sheets.proofs.Readings.{read-is}
+use Rattle.sheets.proofs.Readings.{line-at-is}
 use borrow.Author.Needs.{needs}
-use Rattle.sheets.proofs.line.read.Statement.{statement}
-use Rattle.sheets.proofs.line.read.Tie as tie
+use Rattle.sheets.proofs.line.line_at.Statement.{statement}
+use Rattle.sheets.proofs.line.line_at.Tie as tie
 
 -- ---- the numbers that are found, each with the place behind it
 
 abbrev text : tie.After-n → List ℕ
-text c = c .before .before .before .before .before .args .text .now
+text c = c .before .before .before .before .before .args .sheet .now
 
-one : (c : tie.After-n) → numberAfter 0 flow (text c) ≡ Is (c .n .given .0 .0) (c .n .given .0 .1 .0)
+one : (c : tie.After-n) → numberAfter (c .before .before .before .before .before .args .at) flow (text c) ≡ Is (c .n .given .0 .0) (c .n .given .0 .1 .0)
 one c = sym (c .before .before .number-after .ensures) ∙ c .n .given .1
 
 two : (c : tie.After-z) → let n = c .before .before .before .before .before in
@@ -45,7 +45,7 @@ enum-told : tie.Need-enum-told
 enum-told c = search needs
 
 returns : tie.Need-returns
-returns c = sym (read-is _ ∙ rw (sym (c .before .before .number-after .ensures) ∙ c .enum-told .given .1))
+returns c = sym (line-at-is _ _ ∙ rw (sym (c .before .before .number-after .ensures) ∙ c .enum-told .given .1))
 
 slice-aggregate-number-after-2 : tie.Need-slice-aggregate-number-after-2
 slice-aggregate-number-after-2 c = search needs
@@ -62,7 +62,7 @@ enum-told-2 c = search needs
 returns-2 : tie.Need-returns-2
 returns-2 c =
     let n = c .before .before .before .before .before in
-    sym (read-is _ ∙ rw (one n, sym (c .before .before .number-after2 .ensures) ∙ c .enum-told2 .given .1))
+    sym (line-at-is _ _ ∙ rw (one n, sym (c .before .before .number-after2 .ensures) ∙ c .enum-told2 .given .1))
 
 slice-aggregate-number-after-3 : tie.Need-slice-aggregate-number-after-3
 slice-aggregate-number-after-3 c = search needs
@@ -79,7 +79,7 @@ enum-told-3 c = search needs
 returns-3 : tie.Need-returns-3
 returns-3 c =
     let z = c .before .before .before .before .before in
-    sym (read-is _ ∙ rw (one (z .before .before .before .before .before), two z, sym (c .before .before .number-after3 .ensures) ∙ c .enum-told3 .given .1))
+    sym (line-at-is _ _ ∙ rw (one (z .before .before .before .before .before), two z, sym (c .before .before .number-after3 .ensures) ∙ c .enum-told3 .given .1))
 
 slice-aggregate-number-after-4 : tie.Need-slice-aggregate-number-after-4
 slice-aggregate-number-after-4 c = search needs
@@ -97,7 +97,7 @@ returns-4 : tie.Need-returns-4
 returns-4 c =
     let v = c .before .before .before .before .before in
     let z = v .before .before .before .before .before in
-    sym (read-is _ ∙ rw (one (z .before .before .before .before .before), two z, three v, sym (c .before .before .number-after4 .ensures) ∙ c .enum-told4 .given .1))
+    sym (line-at-is _ _ ∙ rw (one (z .before .before .before .before .before), two z, three v, sym (c .before .before .number-after4 .ensures) ∙ c .enum-told4 .given .1))
 
 ended-requires : tie.Need-ended-requires
 ended-requires c κs =
@@ -108,10 +108,10 @@ returns-5 c =
     let j = c .before .before in
     let v = j .before .before .before .before .before in
     let z = v .before .before .before .before .before in
-    c .ended .ensures ∙ sym (read-is _ ∙ rw (one (z .before .before .before .before .before), two z, three v, four j))
+    c .ended .ensures ∙ sym (line-at-is _ _ ∙ rw (one (z .before .before .before .before .before), two z, three v, four j))
 
-pub read-spec : {M : Type 1} → statement M
-read-spec =
+pub line-at-spec : {M : Type 1} → statement M
+line-at-spec =
     tie.close
     (tie.spec
     slice-aggregate-number-after
