@@ -23,13 +23,13 @@ fn made(name: &[u8], answer: Written, room: &[u8]) {
 
 // Sheet to list.
 fn pack(input: &[u8], room: &mut [u8]) {
-    let answer = sheets::list_from_sheet(input, room);
+    let answer = reading::list_from_sheet(input, room);
     made(b"pack", answer, room);
 }
 
 // List to sheet.
 fn unpack(input: &[u8], room: &mut [u8]) {
-    let answer = sheets::sheet_from_list(input, room);
+    let answer = printing::sheet_from_list(input, room);
     made(b"write", answer, room);
 }
 

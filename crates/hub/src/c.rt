@@ -34,7 +34,7 @@ pub extern "C" fn snowploughy_list_from_sheet(sheet: &[u8], room: &mut [u8], out
     ensures value { λ _. ⌜ now (out .exit) ≡ value (listAnswer (now (sheet .entry)) (length (now (room .entry)))) ⌝ }
     ensures room { λ _. ⌜ now (room .exit) ≡ listRoom (now (sheet .entry)) (now (room .entry)) ⌝ }
 {
-    let made = sheets::list_from_sheet(sheet, room);
+    let made = reading::list_from_sheet(sheet, room);
     report(made, out)
 }
 
@@ -45,7 +45,7 @@ pub extern "C" fn snowploughy_sheet_from_list(list: &[u8], room: &mut [u8], out:
     ensures value { λ _. ⌜ now (out .exit) ≡ value (sheetAnswer (now (list .entry)) (length (now (room .entry)))) ⌝ }
     ensures room { λ _. ⌜ now (room .exit) ≡ sheetRoom (now (list .entry)) (now (room .entry)) ⌝ }
 {
-    let made = sheets::sheet_from_list(list, room);
+    let made = printing::sheet_from_list(list, room);
     report(made, out)
 }
 

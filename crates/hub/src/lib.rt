@@ -5,8 +5,8 @@ mod c;
 
 pub use checking::check;
 pub use planner::plan;
-pub use sheets::list_from_sheet;
-pub use sheets::sheet_from_list;
+pub use printing::sheet_from_list;
+pub use reading::list_from_sheet;
 pub use windows::Edges;
 pub use windows::edges_of;
 pub use windows::window;

@@ -27,7 +27,7 @@ fn sheet_text(sheet: &[u8], room: &mut [u8]) -> Written
     ensures { λ _. ⌜ now (room .exit) ≡ written Passed (sheetText (now (sheet .entry))) (now (room .entry)) ⌝ }
 {
     let mut list = [0u8; 772];
-    let made = sheets::list_from_sheet(sheet, &mut list);
+    let made = reading::list_from_sheet(sheet, &mut list);
     match made {
         Written::Refused(r) => texts::refusal_text(r, room),
         Written::Bytes(k) => list_text(&list[..k], room),
