@@ -139,7 +139,7 @@ module _ (s : List ℕ) (at e : ℕ) where
   goes-false : goesOn at e s ≡ false → e - at < 5 → run (drop e s) ≡ 0
   goes-false f h = by-lt e (length s) (λ l. run-other s e l (sym (goes-digit h) ∙ f)) (λ l. run-end s e l)
 
--- one and k zeros
+-- one and k zeros: what k digits make is below it
 abbrev tens : ℕ → ℕ
 tens zero = 1
 tens (suc k) = tens k * 10
@@ -155,7 +155,6 @@ tens-le (suc (suc (suc (suc (suc k))))) h = absurd (omega arith)
 -- v is read of the digits that begin at a place, and those from e on are left
 pub record ReadTo (s : List ℕ) (at e v : ℕ) : Type 0 where
   pub from : at ≤ e
-  pub few : e ≤ at + 5
   pub inside : e ≤ length s
   pub small : v < tens (e - at)
   pub ran : e + run (drop e s) ≡ at + run (drop at s)
@@ -164,8 +163,9 @@ pub record ReadTo (s : List ℕ) (at e v : ℕ) : Type 0 where
 pub read-start : (s : List ℕ) (at : ℕ) → at ≤ length s → ReadTo s at at 0
 read-start s at h =
     let none : at - at ≡ 0 = omega arith in
-    record { from = le-refl at; few = omega arith; inside = h; small = rw none (lit< tt); ran = refl; says = refl }
+    record { from = le-refl at; inside = h; small = rw none (lit< tt); ran = refl; says = refl }
 
+-- a digit more is taken into the value
 value-next : (v : ℕ) (s : List ℕ) (e : ℕ) → e < length s → digit (getD s e 0) ≡ true
     → value v (take (run (drop e s)) (drop e s)) ≡ value (v * 10 + (getD s e 0 - 48)) (take (run (drop (e + 1) s)) (drop (e + 1) s))
 unfolding value run
@@ -185,7 +185,6 @@ module _ (s : List ℕ) (at e v : ℕ) (read : ReadTo s at e v) where
         omega (arith, few, below),
         record {
           from = omega (arith, read .from);
-          few = omega (arith, goes .0, read .from);
           inside = omega (arith, goes .1);
           small = rw more below;
           ran = omega (arith, read .ran, run-digit s e (goes .1) (goes .2));
