@@ -1,6 +1,6 @@
 -- What is noted for numbers and flows: the list record of each number, and in each flow's cell how many grants it has or its last one.
 -- Assumes nothing.
-use mathlib.Core.Path.{_≡_, sym, ap, subst, _∙_}
+use mathlib.Core.Path.{_≡_, sym, ap, _∙_}
 use mathlib.Core.List.{List}
 use Prim.Native.Nat.{ℕ, _+_, _%_, _≤_, _<_, min}
 use native.Mathlib.Omega.{arith}
@@ -11,15 +11,8 @@ use lib.Seq.{getD-set-same, getD-set-other}
 use Rattle.logic.proofs.Tests.{by-test, by-lt, by-eq}
 use Rattle.fields.specs.declared.flow.Flow.{Flow}
 use Rattle.fields.specs.Flows.{noFlow}
-use Rattle.fields.specs.declared.kind.Kind.the-variants.{TableHead}
-use Rattle.fields.specs.Packed.{Fit}
-use Rattle.fields.specs.Kinds.{widths}
-use Rattle.fields.specs.Records.{valuesOf}
-use Rattle.fields.proofs.Packed.{fit-length, six-values}
-use Rattle.fields.proofs.Records.{values-short, values-fit}
 use Rattle.refusals.proofs.Walks.{before}
 use Rattle.tables.specs.declared.packed.Grant.{Grant}
-use Rattle.tables.specs.Tables.{headOf, count}
 use Rattle.lists.specs.Lists.{flowAt}
 use Rattle.law.specs.Check.{look, last, timely}
 use Rattle.law.specs.Law.{blank}
@@ -93,17 +86,6 @@ module _ (l rs : List ℕ) (gs : List Grant) where
         (λ y. q (ap (λ (z : ℕ). flowAt l (recordOf rs z) .number) y ∙ o ∙ sym y))
 
 -- ---- the cells of the flows' last grants
-
--- a table has fewer than 65,536 grants, so a cell holds their number
-pub count-lt : (t : List ℕ) → count t < 65536
-unfolding count headOf
-count-lt t =
-    by-lt (length t) 8
-    (λ h. rw (values-short TableHead t h) (lit< tt))
-    (λ h.
-    let vs = valuesOf TableHead t in
-    let fit = values-fit TableHead t h in
-    subst (Fit (widths TableHead)) (sym (six-values vs (sym (fit-length (widths TableHead) vs fit)))) fit .1 .1 .1 .0)
 
 -- a flow has no grant from the place in its cell up to record i
 abbrev pub Latest : List ℕ → List Grant → ℕ → List ℕ → Type 0

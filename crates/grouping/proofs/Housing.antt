@@ -14,8 +14,8 @@ use Rattle.layout.specs.declared.placed.Placed.{Placed}
 use Rattle.layout.specs.Cells.{first, Laid, laidOf, groupCells}
 use Rattle.layout.specs.State.{Before}
 use Rattle.layout.proofs.Groups.{Inside, step-other, step-at, step-nowhere, cells-on, cells-stop}
-use Rattle.grouping.specs.Finished.{Housed, Taken}
-use Rattle.grouping.proofs.Turns.{inside-at}
+use Rattle.layout.specs.Finished.{Housed, Taken}
+use Rattle.layout.proofs.Turns.{inside-at}
 
 -- placing a group leaves the frame of a flow of another interval
 cells-apart : (l : List ℕ) (φ n i : ℕ) → (flowAt l i .interval ≡ n → ⊥) → (j c : ℕ) (cs ls ks : List ℕ)

@@ -1,5 +1,2 @@
-pub mod Rising
-pub mod Bounds
 pub mod Reaching
-pub mod Turns
 pub mod Housing

@@ -14,17 +14,17 @@ use Rattle.layout.specs.declared.placed.Placed.the-variants.{Lawful, NoFrame}
 use Rattle.lists.specs.Facts.{cycle, frame}
 use Rattle.placing.specs.Rule.{Outcome, done, refused, Settled, Frame, weight, within, lawful, group, rep, opened, settle, groups, present, intervals, layout}
 use Rattle.layout.specs.Cells.{loads}
-use Rattle.grouping.specs.Intervals.{nextInterval, from}
+use Rattle.layout.specs.Intervals.{nextInterval, from}
 use Rattle.layout.specs.Cells.{free, limit, limits, standing}
 use Rattle.layout.specs.State.{Agrees, Before, Opened, Closed, Ready, Added}
-use Rattle.grouping.specs.Finished.{Finished}
+use Rattle.layout.specs.Finished.{Finished}
 use Rattle.lists.specs.Accepted.{Accepted}
 use Rattle.lists.proofs.Cycle.{frame-pos}
-use Rattle.grouping.proofs.Bounds.{timed, frame-present, small, interval-le, frames-le, divides}
+use Rattle.layout.proofs.Bounds.{timed, frame-present, small, interval-le, frames-le, divides}
 use Rattle.logic.proofs.Tests.{by-lt}
 use Rattle.placing.proofs.Layouts.{settle-length}
 use Rattle.layout.proofs.Closing.{narrow}
-use Rattle.grouping.proofs.Rising.{from-none, from-next, intervals-from, next-present, next-none, present-le}
+use Rattle.layout.proofs.Rising.{from-none, from-next, intervals-from, next-present, next-none, present-le}
 
 -- the groups below interval i (0: all) are placed, in windows of t slots
 pub record Reached (φ i t w : ℕ) (fs : List Flow) (is : List ℕ) (hs : List (List Settled)) (cs ls ks bs : List ℕ) : Type 0 where

@@ -10,9 +10,9 @@ ghost use Rattle.placing.specs.Rule.{intervals, layout};
 ghost use Rattle.layout.specs.declared.placed.Placed.the-variants.{Lawful};
 ghost use Rattle.layout.specs.Cells.{free, over, groupCells, laidOf, endCells, endedOf};
 ghost use Rattle.layout.specs.State.{Ready, Added};
-ghost use Rattle.grouping.specs.Finished.{Finished, Housed, Taken};
-use crate::intervals::next_interval;
+ghost use Rattle.layout.specs.Finished.{Finished, Housed, Taken};
 use layout::Placed;
+use layout::next_interval;
 
 // Places the flows of one interval, in list order, in the window.
 fn place_group(

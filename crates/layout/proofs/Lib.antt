@@ -5,3 +5,6 @@ pub mod Groups
 pub mod Settling
 pub mod Layouts
 pub mod Closing
+pub mod Rising
+pub mod Bounds
+pub mod Turns

@@ -1,2 +1,4 @@
 pub mod Cells
 pub mod State
+pub mod Intervals
+pub mod Finished

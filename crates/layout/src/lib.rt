@@ -4,6 +4,7 @@
 mod arrays;
 mod flows;
 mod frames;
+mod intervals;
 mod placed;
 mod search;
 
@@ -13,4 +14,5 @@ pub use flows::settle;
 pub use frames::past;
 pub use frames::repeat;
 pub use frames::wide;
+pub use intervals::next_interval;
 pub use placed::Placed;

@@ -8,17 +8,16 @@ use borrow.Author.Tests.{eq-eqb}
 use Rattle.logic.proofs.Tests.{true-not-false}
 use Rattle.logic.proofs.Members.{all-imp}
 use Rattle.fields.specs.declared.flow.Flow.{Flow}
-use Rattle.fields.specs.Flows.{keeps}
-use Rattle.refusals.specs.declared.Refusal.the-variants.{Field, UsedNumber, Unrelated}
+use Rattle.refusals.specs.declared.Refusal.the-variants.{UsedNumber, Unrelated}
 use Rattle.refusals.specs.declared.Checked.the-variants.{Passed}
 use Rattle.refusals.specs.Tests.{_⟫_}
 use Rattle.refusals.proofs.Chains.{both-passed}
-use Rattle.refusals.proofs.Entries.{Pairs, each-passed, pairs-passed}
+use Rattle.refusals.proofs.Entries.{Pairs, pairs-passed}
 use Rattle.lists.specs.Lists.{count, flowsOf}
 use Rattle.lists.specs.Facts.{related}
 use Rattle.lists.specs.Tests.{test1, test2, test3, test1exact, test4, newNumber, test5, relatedInterval, test6, test7, tests1to4, tests1to7}
 use Rattle.lists.proofs.Records.{length-flows}
-use Rattle.lists.proofs.Verdicts.{few-passed, limited-passed}
+use Rattle.lists.proofs.Verdicts.{few-passed, limited-passed, kept-exactly}
 use Rattle.lists.specs.Accepted.{Distinct, Related, Accepted}
 
 -- test 5
@@ -52,7 +51,7 @@ accepted l e =
     record {
       filled = rw (length-flows l) (n .0);
       few = rw (length-flows l) (n .1);
-      ruled = each-passed keeps (λ f. keeps f ≡ true) (λ f. (λ t. t, λ t. t)) Field 1 fs .0 (k .1);
+      ruled = kept-exactly fs .0 (k .1);
       distinct = distinct fs (pairs-passed (λ g f. not (eqb (g .number) (f .number))) UsedNumber 1 fs (b .0));
       related = relates fs (pairs-passed (λ g f. related (g .interval) (f .interval)) Unrelated 1 fs (c .0));
       frames-le = limits .0;

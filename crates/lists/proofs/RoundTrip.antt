@@ -15,14 +15,12 @@ use Rattle.fields.specs.Flows.{keeps, flowOf, packedFlow}
 use Rattle.fields.proofs.Records.{length-packed, values-packed, values-fit, packed-front}
 use Rattle.fields.proofs.Flows.{keeps-is, length-packed-flow, flow-packed, four-values, packed-flow}
 use Rattle.fields.proofs.Runs.{run, entries, Again, length-run, entries-run, run-entries}
-use Rattle.refusals.specs.declared.Refusal.the-variants.{Field}
 use Rattle.refusals.specs.declared.Checked.the-variants.{Passed}
 use Rattle.refusals.proofs.Chains.{both-passed, passed-both}
-use Rattle.refusals.proofs.Entries.{each-passed}
 use Rattle.lists.specs.Lists.{headFields, head, headOf, count, place, flowAt, flowsFrom, flowsOf, records, listOf}
 use Rattle.lists.specs.Tests.{test1, test2, test3, test1exact, test4, tests1to4}
 use Rattle.lists.proofs.Records.{length-flows}
-use Rattle.lists.proofs.Verdicts.{Headed, long, list-head, head-passed, few, few-passed, exact, exact-passed}
+use Rattle.lists.proofs.Verdicts.{Headed, long, list-head, head-passed, few, few-passed, exact, exact-passed, kept-exactly}
 
 -- ---- a list's records are a run of records of 6 bytes
 
@@ -88,7 +86,7 @@ module _ (fs : List Flow) (some : 1 ≤ length fs) (most : length fs ≤ 128) (r
       passed-both (test1 l) _ (long l (omega arith))
       (passed-both (test2 l) _ (list-head l (head-value 0, head-value 1, head-value 2))
       (passed-both (test3 (count l)) _ (few (count l) (omega (arith, count-back), omega (arith, count-back)))
-      (passed-both (test1exact l) _ (exact l n) (each-passed keeps (λ f. keeps f ≡ true) (λ f. (λ t. t, λ t. t)) Field 1 (flowsOf l) .1 (rw flows-back ruled)))))
+      (passed-both (test1exact l) _ (exact l n) (kept-exactly (flowsOf l) .1 (rw flows-back ruled)))))
 
 -- ---- a list to its flows and back
 
@@ -113,7 +111,7 @@ listed l e =
       some = n .0;
       most = n .1;
       exactly = exact-passed l (d .0);
-      ruled = each-passed keeps (λ f. keeps f ≡ true) (λ f. (λ t. t, λ t. t)) Field 1 (flowsOf l) .0 (d .1);
+      ruled = kept-exactly (flowsOf l) .0 (d .1);
     }
 
 module _ (l : List ℕ) (b : (i : ℕ) → getD l i 0 < 256) where

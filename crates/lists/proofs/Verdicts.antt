@@ -1,20 +1,23 @@
 -- What the tests of a list answer, both ways. Assumes nothing.
 use mathlib.Core.Path.{_≡_, sym, ap, _∙_}
 use mathlib.Core.Bool.{Bool, true, _&&_}
+use mathlib.Core.Logic.{_↔_}
 use mathlib.Core.List.{List}
 use Prim.Native.Nat.{ℕ, _/_, _≤_, _<_}
 use lib.Dec.{leb, eqb}
 use lib.ListN.{length, getD}
 use borrow.Author.Tests.{lt-leb, le-leb, eq-eqb, ne-eqb, leb-true, eqb-true}
+use Rattle.logic.specs.Lists.{All}
 use Rattle.logic.proofs.Tests.{by-test, and-both}
 use Rattle.fields.specs.declared.flow.Flow.{Flow}
-use Rattle.fields.specs.Flows.{among}
+use Rattle.fields.specs.Flows.{among, keeps}
 use Rattle.refusals.specs.declared.Refusal.{Refusal}
-use Rattle.refusals.specs.declared.Refusal.the-variants.{Length, Head, Count, Limits}
+use Rattle.refusals.specs.declared.Refusal.the-variants.{Length, Head, Count, Field, Limits}
 use Rattle.refusals.specs.declared.Checked.{Checked}
 use Rattle.refusals.specs.declared.Checked.the-variants.{Passed, Refused}
 use Rattle.refusals.specs.Tests.{unless, _⟫_}
 use Rattle.refusals.proofs.Chains.{unless-no, unless-passed, chain-assoc}
+use Rattle.refusals.proofs.Entries.{each-passed}
 use Rattle.lists.specs.Lists.{headOf, count, place, flowsOf}
 use Rattle.lists.specs.Facts.{cycle, frame, grants}
 use Rattle.lists.specs.Tests.{test1, test2, test3, test1exact, test4, test7, tests1to4}
@@ -107,3 +110,8 @@ head-first l =
     sym
     (chain-assoc (test1 l) _ _
     ∙ ap (λ (c : Checked). test1 l ⟫ c) (chain-assoc (test2 l) _ _ ∙ ap (λ (c : Checked). test2 l ⟫ c) (chain-assoc (test3 (count l)) (test1exact l) (test4 (flowsOf l)))))
+
+-- test 4 passes exactly where every flow keeps its rule
+pub kept-exactly : (fs : List Flow) → (test4 fs ≡ Passed) ↔ All (λ f. keeps f ≡ true) fs
+unfolding test4
+kept-exactly fs = each-passed keeps (λ f. keeps f ≡ true) (λ f. (λ t. t, λ t. t)) Field 1 fs

@@ -1,8 +1,3 @@
-pub mod Ordering
-pub mod Queueing
-pub mod Writing
-pub mod Tabling
-pub mod Printing
 pub mod Answering
 pub mod Verdicts
 pub mod Passes

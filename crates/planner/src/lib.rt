@@ -1,6 +1,6 @@
-// The planner: tests 1 to 10 of a packed list, and the table of its grants.
-mod grants;
-mod order;
+// The planner: tests 1 to 10 of a packed list, and its table.
+//
+// The public function asks nothing of its caller.
 mod planning;
 
 pub use planning::plan;

@@ -10,13 +10,13 @@ use Rattle.refusals.proofs.Rooms.{ends-written, written-front}
 use Rattle.lists.specs.Lists.{flowsOf, listOf}
 use Rattle.lists.specs.Tests.{tests1to4}
 use Rattle.lists.proofs.Records.{length-flows}
-use Rattle.lists.proofs.Verdicts.{few}
+use Rattle.lists.proofs.Verdicts.{few, kept-exactly}
 use Rattle.lists.proofs.RoundTrip.{flows-back, list-passes, listed, list-back}
 use Rattle.sheets.specs.Texts.{text}
 use Rattle.sheets.specs.Readings.{flowsIn}
 use Rattle.sheets.specs.Tests.{sheetTests}
 use Rattle.sheets.specs.Answers.{listAnswer, listRoom, sheetAnswer, sheetRoom}
-use Rattle.sheets.proofs.Tests.{rule-answers, sound, kept-exactly}
+use Rattle.sheets.proofs.Tests.{rule-answers, sound}
 use Rattle.sheets.proofs.Sheets.{sheet-passes, passes-sheet, sheet-is-text, text-is-sheet}
 
 -- ---- on the definitions

@@ -1,7 +1,6 @@
 -- The tests of a sheet in their order, and what looking through it finds. Assumes nothing.
 use mathlib.Core.Path.{_≡_, refl, ap}
 use mathlib.Core.Bool.{true}
-use mathlib.Core.Logic.{_↔_}
 use mathlib.Core.List.{List}
 use Prim.Native.Nat.{ℕ, _≤_}
 use native.Mathlib.Omega.{arith}
@@ -9,14 +8,11 @@ use lib.ListN.{length}
 use Rattle.refusals.specs.declared.Refusal.{Refusal}
 use Rattle.refusals.specs.declared.Checked.{Checked}
 use Rattle.refusals.specs.declared.Checked.the-variants.{Passed, Refused}
-use Rattle.refusals.specs.declared.Refusal.the-variants.{Field}
 use Rattle.refusals.proofs.Chains.{both-passed}
 use Rattle.logic.specs.Lists.{All}
-use Rattle.refusals.proofs.Entries.{each-passed}
-use Rattle.fields.specs.declared.flow.Flow.{Flow}
 use Rattle.fields.specs.Flows.{keeps}
 use Rattle.lists.specs.Tests.{test3, test4}
-use Rattle.lists.proofs.Verdicts.{few-passed}
+use Rattle.lists.proofs.Verdicts.{few-passed, kept-exactly}
 use Rattle.sheets.specs.declared.survey.Survey.the-variants.{Lines, Refused as Faulty}
 use Rattle.sheets.specs.Readings.{flowsIn}
 use Rattle.sheets.specs.Tests.{test20, sheetTests, counted, surveyOf}
@@ -65,11 +61,6 @@ module _ (s : List ℕ) where
   lines-found n e = lines-by (sheetTests s) (length (flowsIn s)) n e
 
 -- ---- what is known of a sheet that passes
-
--- test 4 passes exactly where every flow keeps its rule
-pub kept-exactly : (fs : List Flow) → (test4 fs ≡ Passed) ↔ All (λ f. keeps f ≡ true) fs
-unfolding test4
-kept-exactly fs = each-passed keeps (λ f. keeps f ≡ true) (λ f. (λ t. t, λ t. t)) Field 1 fs
 
 pub record Sound (s : List ℕ) : Type 0 where
   pub formed : test20 s ≡ Passed

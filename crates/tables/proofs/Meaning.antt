@@ -22,7 +22,7 @@ use Rattle.tables.specs.declared.packed.Grant.{Grant}
 use Rattle.tables.specs.Tables.{headFields, head, headOf, count, cycleOf, frameOf, place, valuesAt, grantWith, grantAt, spareAt, grantsFrom, grantsOf, fieldsOf, records, tableOf}
 use Rattle.tables.specs.Form.{headed, spared, formed}
 use Rattle.tables.proofs.Forms.{Formed, headed-is, is-formed, formed-is}
-use Rattle.tables.proofs.Walk.{length-grants}
+use Rattle.tables.proofs.Records.{length-grants}
 
 -- ---- records, one behind the other
 

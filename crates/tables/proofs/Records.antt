@@ -1,19 +1,21 @@
 -- A record of a table, read and written at its place. Assumes nothing.
 use mathlib.Core.Path.{_≡_, refl, sym, ap}
-use mathlib.Core.List.{List, _++_}
+use mathlib.Core.List.{List, [], _∷_, _++_}
 use Prim.Native.Nat.{ℕ, _-_, _/_, _≤_, _<_}
 use native.Mathlib.Omega.{arith}
 use lib.ListN.{length, getD, take, drop, replicate, length-drop}
+use Rattle.logic.proofs.Tests.{by-lt}
 use Rattle.logic.proofs.Indices.{length-from, entry-is}
-use Rattle.fields.specs.declared.kind.Kind.the-variants.{TableRecord}
+use Rattle.fields.specs.declared.kind.Kind.the-variants.{TableHead, TableRecord}
 use Rattle.fields.specs.declared.record.Stored.{Stored}
 use Rattle.fields.specs.declared.record.Stored.the-variants.{Short}
+use Rattle.fields.specs.Packed.{Fit}
 use Rattle.fields.specs.Records.{valuesOf, stored, roomAfter}
-use Rattle.fields.proofs.Records.{values-short}
+use Rattle.fields.proofs.Records.{values-short, values-fit}
 use Rattle.logic.proofs.Parts.{part-to-end}
 use Rattle.fields.proofs.Places.{ends-beyond, ends-part}
 use Rattle.tables.specs.declared.packed.Grant.{Grant}
-use Rattle.tables.specs.Tables.{count, place, valuesAt, grantAt, grantsFrom, grantsOf, fieldsOf, recordStored, recordAfter}
+use Rattle.tables.specs.Tables.{headOf, count, place, valuesAt, grantAt, grantsFrom, grantsOf, fieldsOf, recordStored, recordAfter}
 
 -- ---- reading
 
@@ -24,6 +26,19 @@ values-beyond t i k e h = sym (values-short TableRecord (drop (place i) t) (simp
 pub values-part : (t : List ℕ) (i : ℕ) → valuesOf TableRecord (take (length t - place i) (drop (place i) t)) ≡ valuesAt t i
 unfolding valuesAt
 values-part t i = ap (valuesOf TableRecord) (part-to-end (place i) t)
+
+-- ---- the count
+
+fourth : (vs : List ℕ) → Fit (4 ∷ 4 ∷ 8 ∷ 16 ∷ 16 ∷ 16 ∷ []) vs → getD vs 3 0 < 65536
+fourth (a ∷ []) f = absurd (f .1)
+fourth (a ∷ b ∷ []) f = absurd (f .1 .1)
+fourth (a ∷ b ∷ c ∷ []) f = absurd (f .1 .1 .1)
+fourth (a ∷ b ∷ c ∷ d ∷ vs) f = f .1 .1 .1 .0
+
+-- a head says at most 65,535 records
+pub count-small : (t : List ℕ) → count t < 65536
+unfolding count headOf
+count-small t = by-lt (length t) 8 (λ h. rw (values-short TableHead t h) (omega arith)) (λ h. fourth (valuesOf TableHead t) (values-fit TableHead t h))
 
 -- ---- the grants of a table
 

@@ -5,7 +5,6 @@ use mathlib.Core.List.{List, [], _∷_}
 use Prim.Native.Nat.{ℕ, zero, suc, _+_, _-_, _≤_, _<_}
 use native.Mathlib.Numerals.{add-one}
 use native.Mathlib.Omega.{arith}
-use lib.ListN.{length}
 use borrow.Author.Tests.{lt-ltb, le-ltb, eq-eqb, ne-eqb}
 use Rattle.refusals.specs.declared.Refusal.the-variants.{NotRising}
 use Rattle.refusals.specs.declared.Checked.{Checked}
@@ -14,17 +13,8 @@ use Rattle.refusals.specs.Tests.{lowest, against, after}
 use Rattle.refusals.proofs.Lowest.{lowest-next, lowest-here}
 use Rattle.refusals.proofs.Walks.{against-after}
 use Rattle.tables.specs.declared.packed.Grant.{Grant}
-use Rattle.tables.specs.Tables.{count, grantAt, spareAt, grantsFrom, grantsOf}
+use Rattle.tables.specs.Tables.{grantAt, spareAt, grantsFrom}
 use Rattle.tables.specs.Form.{spared, rises, test12}
-
-length-from : (t : List ℕ) (i n : ℕ) → length (grantsFrom t i n) ≡ n
-unfolding grantsFrom
-length-from t i zero = refl
-length-from t i (suc n) = ap suc (length-from t (suc i) n)
-
-pub length-grants : (t : List ℕ) → length (grantsOf t) ≡ count t
-unfolding grantsOf
-length-grants t = length-from t 0 (count t)
 
 -- test 12 of the records from record i on, with the grant before them
 abbrev pub risingFrom : Grant → List ℕ → ℕ → ℕ → Checked

@@ -1,22 +1,17 @@
 -- The lines of a table's grants written, one after another, and the whole text. Assumes nothing.
 use mathlib.Core.Path.{_≡_, sym, ap, ap₂, _∙_}
-use mathlib.Core.List.{List, [], _∷_, _++_}
+use mathlib.Core.List.{List, [], _++_}
 use Prim.Native.Nat.{ℕ, suc, _+_, _-_, _≤_, _<_}
 use native.Mathlib.Numerals.{add-one}
 use native.Mathlib.Omega.{arith}
-use lib.ListN.{length, getD, length-append}
+use lib.ListN.{length, length-append}
 use lib.Seq.{sets}
-use Rattle.logic.proofs.Tests.{by-lt}
 use Rattle.logic.proofs.Rooms.{sets-append}
-use Rattle.fields.specs.declared.kind.Kind.the-variants.{TableHead}
-use Rattle.fields.specs.Packed.{Fit}
-use Rattle.fields.specs.Records.{valuesOf}
-use Rattle.fields.proofs.Records.{values-short, values-fit}
 use Rattle.lists.specs.declared.facts.Facts.{Facts}
 use Rattle.lists.specs.Lists.{flowsOf}
 use Rattle.lists.specs.Facts.{factsOf}
 use Rattle.tables.specs.declared.packed.Grant.{Grant}
-use Rattle.tables.specs.Tables.{headOf, count, cycleOf, frameOf, grantAt, grantsFrom, grantsOf}
+use Rattle.tables.specs.Tables.{count, cycleOf, frameOf, grantAt, grantsFrom, grantsOf}
 use Rattle.texts.specs.Texts.{headLine, grantLine, grantLines, planText}
 
 -- ---- the lines of grants
@@ -47,17 +42,6 @@ module _ (t : List ℕ) (n i : ℕ) where
     lines-written room at = ap (sets room at) lines-next ∙ sets-append room at (grantLine g) (grantLines (left t n (i + 1)))
 
 -- ---- the whole text
-
-fourth : (vs : List ℕ) → Fit (4 ∷ 4 ∷ 8 ∷ 16 ∷ 16 ∷ 16 ∷ []) vs → getD vs 3 0 < 65536
-fourth (a ∷ []) f = absurd (f .1)
-fourth (a ∷ b ∷ []) f = absurd (f .1 .1)
-fourth (a ∷ b ∷ c ∷ []) f = absurd (f .1 .1 .1)
-fourth (a ∷ b ∷ c ∷ d ∷ vs) f = f .1 .1 .1 .0
-
--- a head says at most 65,535 records
-pub count-small : (t : List ℕ) → count t < 65536
-unfolding count headOf
-count-small t = by-lt (length t) 8 (λ h. rw (values-short TableHead t h) (omega arith)) (λ h. fourth (valuesOf TableHead t) (values-fit TableHead t h))
 
 -- c, φ, n and f are what the calls give
 module _ (l t : List ℕ) (c φ n : ℕ) (f : Facts) (c₀ : c ≡ cycleOf t) (φ₀ : φ ≡ frameOf t) (n₀ : n ≡ count t) (f₀ : f ≡ factsOf (flowsOf l)) where

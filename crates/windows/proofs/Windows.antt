@@ -18,7 +18,7 @@ use Rattle.tables.specs.Tables.{cycleOf, place, grantsOf}
 use Rattle.tables.specs.Form.{formed, test11, test12, formTests}
 use Rattle.windows.specs.declared.stretch.Edges.the-variants.{Bytes, Refused as Stopped}
 use Rattle.windows.specs.Window.{test19, windowTests, before, edge, edgesIf, edgesOf}
-use Rattle.tables.proofs.Walk.{length-grants}
+use Rattle.tables.proofs.Records.{length-grants}
 use Rattle.tables.proofs.Forms.{Formed, formed-is}
 
 -- ---- test 19

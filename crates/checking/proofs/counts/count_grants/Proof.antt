@@ -9,10 +9,10 @@ use borrow.Author.Needs.{needs}
 use Rattle.fields.specs.declared.flow.Flow.{Flow}
 use Rattle.lists.specs.Lists.{flowAt}
 use Rattle.tables.specs.Tables.{grantsOf}
-use Rattle.tables.proofs.Records.{length-grants, grant-is}
+use Rattle.tables.proofs.Records.{count-small, length-grants, grant-is}
 use Rattle.law.specs.Law.{blank}
 use Rattle.checking.specs.Parts.{recordOf}
-use Rattle.checking.proofs.Notes.{count-lt, CountsAt, counts-none, counts-own, counts-other, counts-end}
+use Rattle.checking.proofs.Notes.{CountsAt, counts-none, counts-own, counts-other, counts-end}
 use Rattle.checking.proofs.counts.count_grants.Statement.{statement}
 use Rattle.checking.proofs.counts.count_grants.Tie as tie
 
@@ -86,7 +86,7 @@ add-cells c =
     let n = r .before .before .before .before in
     let v = r .before .before .before .loop in
     let q = rw (← r .record-of .ensures) at (v .inv .2 (r .before .grant-at .result .flow) (noted f (c .before .if1 .taken))) in
-    omega (arith, q .0, n .count .ensures, count-lt (start n .args .table .now))
+    omega (arith, q .0, n .count .ensures, count-small (start n .args .table .now))
 
 mul-cells-2 : tie.Need-mul-cells-2 Inv-loop μ-loop
 mul-cells-2 c = omega (arith, inside (c .before .before .before .before))

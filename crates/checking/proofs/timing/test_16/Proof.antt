@@ -10,10 +10,10 @@ use Rattle.refusals.specs.declared.Refusal.the-variants.{Timing}
 use Rattle.refusals.proofs.Walks.{before, walk, walk-next, walk-here, walk-end}
 use Rattle.lists.specs.Lists.{flowsOf}
 use Rattle.tables.specs.Tables.{grantsOf}
-use Rattle.tables.proofs.Records.{length-grants, grant-is}
+use Rattle.tables.proofs.Records.{count-small, length-grants, grant-is}
 use Rattle.law.specs.Check.{timely, test16}
 use Rattle.law.specs.Law.{blank}
-use Rattle.checking.proofs.Notes.{count-lt, Latest, latest-none, latest-next, timely-by}
+use Rattle.checking.proofs.Notes.{Latest, latest-none, latest-next, timely-by}
 use Rattle.checking.proofs.Verdicts.{time-test}
 use Rattle.checking.proofs.timing.test_16.Statement.{statement}
 use Rattle.checking.proofs.timing.test_16.Tie as tie
@@ -129,7 +129,7 @@ add-cells c = search needs
 cast-cells : tie.Need-cast-cells Inv-loop μ-loop
 cast-cells c =
     let n = c .before .before .before .before .before .before .before in
-    omega (arith, n .count .ensures, count-lt (start n .args .table .now))
+    omega (arith, n .count .ensures, count-small (start n .args .table .now))
 
 mul-cells : tie.Need-mul-cells Inv-loop μ-loop
 mul-cells c = omega (arith, inside (c .before .before .before))

@@ -6,7 +6,7 @@ use lib.ListN.{length}
 use Rattle.lists.proofs.Records.{length-flows}
 use Rattle.lists.specs.Lists.{flowsOf}
 use Rattle.layout.proofs.Closing.{Leaves, narrow, left-inside, left-low, added-refused, added-all}
-use Rattle.grouping.proofs.Turns.{inside-at}
+use Rattle.layout.proofs.Turns.{inside-at}
 use Rattle.grouping.proofs.Housing.{taken}
 use borrow.Author.Needs.{needs}
 use Rattle.grouping.proofs.groups.add_group.Statement.{statement}

@@ -9,10 +9,10 @@ use lib.Seq.{length-front}
 use Rattle.logic.specs.Lists.{All}
 use Rattle.lists.specs.Lists.{flowsOf}
 use Rattle.placing.specs.Rule.{Settled}
-use Rattle.grouping.specs.Intervals.{from}
-use Rattle.grouping.specs.Finished.{Housed}
+use Rattle.layout.specs.Intervals.{from}
+use Rattle.layout.specs.Finished.{Housed}
 use Rattle.lists.proofs.Cycle.{frame-pos}
-use Rattle.grouping.proofs.Bounds.{frames-le}
+use Rattle.layout.proofs.Bounds.{frames-le}
 use Rattle.grouping.proofs.Reaching.{Reached, reached-start, ready-on, refused-on, next-on, reached-all, reached-end, to-come}
 use Rattle.grouping.proofs.Housing.{housed-on}
 use borrow.Author.Needs.{needs}

@@ -6,7 +6,7 @@ use lib.ListN.{length}
 use borrow.Author.Tests.{not-true, not-false}
 use Rattle.lists.specs.Lists.{count, flowsOf}
 use Rattle.layout.specs.Cells.{groupCells}
-use Rattle.grouping.proofs.Turns.{rest, group-turn, group-stop, group-end}
+use Rattle.layout.proofs.Turns.{rest, group-turn, group-stop, group-end}
 use borrow.Author.Needs.{needs}
 use Rattle.grouping.proofs.groups.place_group.Statement.{statement}
 use Rattle.grouping.proofs.groups.place_group.Tie as tie

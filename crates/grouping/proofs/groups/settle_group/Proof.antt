@@ -6,7 +6,7 @@ use lib.ListN.{length, getD}
 use Rattle.fields.specs.declared.flow.Flow.{Flow}
 use Rattle.lists.specs.Lists.{count, flowsOf}
 use Rattle.layout.specs.Cells.{endCells}
-use Rattle.grouping.proofs.Turns.{rest, settle-turn, settle-end}
+use Rattle.layout.proofs.Turns.{rest, settle-turn, settle-end}
 use borrow.Author.Needs.{needs}
 use Rattle.grouping.proofs.groups.settle_group.Statement.{statement}
 use Rattle.grouping.proofs.groups.settle_group.Tie as tie

@@ -8,7 +8,8 @@ use Rattle.logic.proofs.Rooms.{sets-front}
 use Rattle.refusals.specs.declared.Checked.the-variants.{Passed}
 use Rattle.refusals.proofs.Rooms.{ends-short, ends-written}
 use Rattle.texts.specs.Texts.{planText}
-use Rattle.texts.proofs.Printing.{count-small, plan-size, plan-put}
+use Rattle.tables.proofs.Records.{count-small}
+use Rattle.texts.proofs.Printing.{plan-size, plan-put}
 use borrow.Author.Needs.{needs}
 use Rattle.texts.proofs.plan.plan_text.Statement.{statement}
 use Rattle.texts.proofs.plan.plan_text.Tie as tie

@@ -1,0 +1,5 @@
+pub mod Ordering
+pub mod Queueing
+pub mod Writing
+pub mod Tabling
+pub mod Printing
