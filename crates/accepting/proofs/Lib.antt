@@ -1,3 +1,1 @@
 pub mod Verdicts
-pub mod Bits
-pub mod Seen

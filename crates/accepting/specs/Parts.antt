@@ -1,74 +1,11 @@
--- What the code's own parts answer: the head, and what two records must have of one another. Assumes nothing.
-use mathlib.Core.Path.{_≡_}
-use mathlib.Core.Bool.{Bool, true, _&&_, not}
-use mathlib.Core.List.{List, []}
-use Prim.Native.Nat.{ℕ, _/_, _%_, _^_, _≤_, _<_}
+-- What the code's own parts answer. Assumes nothing.
+use mathlib.Core.Bool.{Bool, _&&_}
+use mathlib.Core.List.{List}
+use Prim.Native.Nat.{ℕ}
 use lib.Dec.{eqb}
-use lib.ListN.{length, getD}
-use Rattle.logic.specs.Lists.{every}
-use Rattle.fields.specs.declared.flow.Flow.{Flow}
-use Rattle.fields.specs.Flows.{noFlow}
-use Rattle.refusals.specs.declared.Refusal.{Refusal}
-use Rattle.refusals.specs.declared.Refusal.the-variants.{UsedNumber, Unrelated}
-use Rattle.refusals.specs.declared.Checked.{Checked}
-use Rattle.refusals.specs.Tests.{_⟫_, lowest, against}
-use Rattle.refusals.proofs.Walks.{walk}
+use lib.ListN.{getD}
 use Rattle.lists.specs.Lists.{headOf}
-use Rattle.lists.specs.Facts.{related}
-use Rattle.accepting.specs.declared.pairs.Pair.{Pair}
-use Rattle.accepting.specs.declared.pairs.Pair.the-variants.{Number, Interval}
 
 -- what test 2 asks of the head: edition 1, kind 1 and spare bits 0
 abbrev pub headed : List ℕ → Bool
 headed l = eqb (getD (headOf l) 0 0) 1 && (eqb (getD (headOf l) 1 0) 1 && eqb (getD (headOf l) 2 0) 0)
-
--- what test 5 or 6 asks of a record f and an earlier one g
-abbrev pub agrees : Pair → Flow → Flow → Bool
-agrees Number g f = not (eqb (g .number) (f .number))
-agrees Interval g f = related (g .interval) (f .interval)
-
--- a record agrees with all that are seen
-abbrev pub agreesWith : Pair → List Flow → Flow → Bool
-agreesWith pair seen f = every (λ g. agrees pair g f) seen
-
--- the refusal of a record that does not agree
-abbrev pub refusalOf : Pair → ℕ → Refusal
-refusalOf Number p = UsedNumber p
-refusalOf Interval p = Unrelated p
-
--- test 5 or 6
-abbrev pub pairTest : Pair → List Flow → Checked
-pairTest pair fs = lowest (refusalOf pair) 1 (against (agreesWith pair) [] fs)
-
--- test 5 or 6 says of the records from i on what it says of all: those before pass
-abbrev pub Settled : Pair → List Flow → ℕ → Type 0
-Settled pair fs i = walk (refusalOf pair) (agreesWith pair) fs noFlow i ≡ pairTest pair fs
-
--- tests 5 and 6, in their order
-abbrev pub pairTests : List Flow → Checked
-pairTests fs = pairTest Number fs ⟫ pairTest Interval fs
-
--- x is one of the first k numbers
-abbrev pub OneOf : List ℕ → ℕ → ℕ → Type 0
-OneOf xs k x = (j : ℕ) × (j < k) × (getD xs j 0 ≡ x)
-
--- the first k intervals are related to one another
-abbrev pub Chain : List ℕ → ℕ → Type 0
-Chain xs k = (i j : ℕ) → i < k → j < k → related (getD xs i 0) (getD xs j 0) ≡ true
-
--- the first n of ys are the first k intervals of xs and the interval x, all related
-pub record Kept (xs : List ℕ) (k x : ℕ) (ys : List ℕ) (n : ℕ) : Type 0 where
-  pub few : n ≤ length ys
-  pub chain : Chain ys n
-  pub one : OneOf ys n x
-  pub rest : (y : ℕ) → OneOf xs k y → OneOf ys n y
-
--- the bit of the number x, eight to a byte
-abbrev pub bit : List ℕ → ℕ → ℕ
-bit bs x = getD bs (x / 8) 0 / 2 ^ (x % 8) % 2
-
--- the number x was not noted in xs, and in ys it is, with all that was
-pub record Noted (xs : List ℕ) (x : ℕ) (ys : List ℕ) : Type 0 where
-  pub new : bit xs x ≡ 0
-  pub one : bit ys x ≡ 1
-  pub rest : (y : ℕ) → bit xs y ≡ 1 → bit ys y ≡ 1

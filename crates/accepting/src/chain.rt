@@ -4,17 +4,14 @@ ghost use Rattle.fields.specs.Flows.{among};
 ghost use Rattle.refusals.specs.Tests.{_⟫_};
 ghost use Rattle.lists.specs.Lists.{count, flowsOf};
 ghost use Rattle.lists.specs.Tests.{test1, test2, test3, test1exact, test4, test7, tests1to4, tests1to7};
-ghost use Rattle.accepting.specs.Parts.{headed, pairTests};
-use crate::intervals::related_up_to;
-use crate::numbers::new_up_to;
-use crate::pairs::Pair;
-use crate::pairs::pair_test;
+ghost use Rattle.accepting.specs.Parts.{headed};
 use amounts::times;
 use fields::Kind;
 use fields::Rule;
 use lists::count;
 use lists::facts_of;
 use lists::flow_at;
+use pairing::pair_tests;
 use refusals::Checked;
 use refusals::Refusal;
 
@@ -100,17 +97,6 @@ pub fn tests_1_to_4(list: &[u8]) -> Checked
         return Checked::Refused(r);
     }
     field_test(list)
-}
-
-// Tests 5 and 6 of a list.
-fn pair_tests(list: &[u8]) -> Checked
-    ensures { λ r. ⌜ r ≡ pairTests (flowsOf (now (list .entry))) ⌝ }
-{
-    let numbers = pair_test(Pair::Number, list, new_up_to(list));
-    if let Checked::Refused(r) = numbers {
-        return Checked::Refused(r);
-    }
-    pair_test(Pair::Interval, list, related_up_to(list))
 }
 
 // Tests 1 to 7 of a list.

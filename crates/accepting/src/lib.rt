@@ -2,9 +2,6 @@
 //
 // They write nothing. No public function asks anything of its caller.
 mod chain;
-mod intervals;
-mod numbers;
-mod pairs;
 
 pub use chain::tests_1_to_4;
 pub use chain::tests_1_to_7;

@@ -74,6 +74,6 @@ pub fn find(list: &[u8], records: &[u8], number: u16) -> Found
     }
     Found {
         known: false,
-        flow: Flow::none(),
+        flow: Flow::NONE,
     }
 }

@@ -1,7 +1,7 @@
 // A flow, its rule and its record.
 ghost use mathlib.Core.Path.{_≡_};
 ghost use lib.ListN.{length};
-ghost use Rattle.fields.specs.Flows.{noFlow, rule, flowOf, fieldsOf};
+ghost use Rattle.fields.specs.Flows.{rule, flowOf, fieldsOf};
 ghost use Rattle.fields.specs.Records.{stored, roomAfter};
 ghost use Rattle.fields.specs.declared.kind.Kind.the-variants.{ListRecord};
 use crate::kind::Kind;
@@ -24,16 +24,12 @@ pub enum Rule {
 
 impl Flow {
     // What is read where there is no record: zeros, which break the rule.
-    pub fn none() -> Flow
-        ensures { λ r. ⌜ r ≡ noFlow ⌝ }
-    {
-        Flow {
-            number: 0,
-            size: 0,
-            interval: 0,
-            jitter: 0,
-        }
-    }
+    pub const NONE: Flow = Flow {
+        number: 0,
+        size: 0,
+        interval: 0,
+        jitter: 0,
+    };
 
     // Number 1 to 1023, size 1 to 4,095, interval 1 to 4,096, size at most the interval, jitter below it.
     pub fn rule(self) -> Rule

@@ -22,11 +22,12 @@ impl Kind {
     pub(crate) fn widths(self) -> [u8; 6]
         ensures { λ r. ⌜ r ≡ widths self ⌝ }
     {
+        let table = WIDTHS;
         match self {
-            Kind::ListHead => WIDTHS[0],
-            Kind::ListRecord => WIDTHS[1],
-            Kind::TableHead => WIDTHS[2],
-            Kind::TableRecord => WIDTHS[3],
+            Kind::ListHead => table[0],
+            Kind::ListRecord => table[1],
+            Kind::TableHead => table[2],
+            Kind::TableRecord => table[3],
         }
     }
 

@@ -24,7 +24,7 @@ pub fn flow_at(list: &[u8], i: usize) -> Flow
 {
     let end = list.len();
     if end / 6 <= i {
-        return Flow::none();
+        return Flow::NONE;
     }
     let start = 4 + 6 * i;
     fields::read_flow(&list[start..end])

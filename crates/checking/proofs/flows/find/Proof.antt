@@ -63,15 +63,12 @@ loop-again c =
     let a = g .before .before .before .before .before .before .before .args in
     sym (found-next (flowsOf (a .list .now)) (a .number) (v .i) (inside g) (g .flow-at .result) (read g) (c .if1 .left)) ∙ v .inv
 
-none-requires : tie.Need-none-requires Inv-loop μ-loop
-none-requires c κs = search needs
-
 returns-2 : tie.Need-returns-2 Inv-loop μ-loop
 returns-2 c =
-    let v = c .before .before .loop in
-    let n = c .before .before .before .before in
+    let v = c .before .loop in
+    let n = c .before .before .before in
     let a = n .before .before .before .args in
-    rw (c .none .ensures) (found-end (flowsOf (a .list .now)) (a .number) (v .i) (omega (arith, n .count .ensures, length-flows (a .list .now))) ∙ v .inv)
+    found-end (flowsOf (a .list .now)) (a .number) (v .i) (omega (arith, n .count .ensures, length-flows (a .list .now))) ∙ v .inv
 
 pub find-spec : {M : Type 1} → statement M
 find-spec =
@@ -87,5 +84,4 @@ find-spec =
     add-i
     loop-less
     loop-again
-    none-requires
     returns-2)

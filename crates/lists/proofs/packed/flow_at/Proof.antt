@@ -6,13 +6,10 @@ use Rattle.lists.proofs.Records.{flow-beyond, flow-part}
 use Rattle.lists.proofs.packed.flow_at.Statement.{statement}
 use Rattle.lists.proofs.packed.flow_at.Tie as tie
 
-none-requires : tie.Need-none-requires
-none-requires c κs = search needs
-
 returns : tie.Need-returns
 returns c =
-    let a = c .before .before .before .args in
-    c .none .ensures ∙ flow-beyond (a .list .now) (a .i) (c .before .if1 .taken)
+    let a = c .before .before .args in
+    flow-beyond (a .list .now) (a .i) (c .if1 .taken)
 
 mul-start : tie.Need-mul-start
 mul-start c = search needs
@@ -41,7 +38,6 @@ pub flow-at-spec : {M : Type 1} → statement M
 flow-at-spec =
     tie.close
     (tie.spec
-    none-requires
     returns
     mul-start
     add-start

@@ -1,0 +1,42 @@
+// Test 5, quickly: a bit for each number says that an earlier record has it.
+ghost use mathlib.Core.Path.{_≡_};
+ghost use mathlib.Core.Bool.{true};
+ghost use Rattle.lists.specs.Lists.{flowsOf};
+ghost use Rattle.pairing.specs.Parts.{Settled, Noted};
+use crate::pairs::Pair;
+use lists::count;
+use lists::flow_at;
+
+// Bytes for the bits of all numbers, which are below 1,024.
+const BYTES: usize = 128;
+
+// Notes the number x by its bit; false if it was noted before or has no bit.
+fn note(bits: &mut [u8], x: u16) -> bool
+    ensures { λ r. ⌜ (r ≡ true → Noted (now (bits .entry)) x (now (bits .exit))) ⌝ }
+{
+    let k = (x / 8) as usize;
+    if bits.len() <= k {
+        return false;
+    }
+    let b = x % 8;
+    let byte = bits[k];
+    if (byte >> b) % 2 != 0 {
+        return false;
+    }
+    bits[k] = byte + (1u8 << b);
+    true
+}
+
+// How many records, from the first on, pass test 5: all that do, unless a number has no bit.
+pub fn new_up_to(list: &[u8]) -> usize
+    ensures { λ r. ⌜ Settled Pair.Number (flowsOf (now (list .entry))) r ⌝ }
+{
+    let n = count(list);
+    let mut bits = [0u8; BYTES];
+    for i in 0..n {
+        if !note(&mut bits, flow_at(list, i).number) {
+            return i;
+        }
+    }
+    n
+}
