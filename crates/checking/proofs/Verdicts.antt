@@ -21,18 +21,18 @@ use Rattle.law.specs.Law.{blank}
 use Rattle.checking.specs.Parts.{belongs, grantTest}
 
 -- the table has the list's cycle and frame
-module _ (facts : Facts) (t : List ℕ) where
-  pub other-cycle : (cycleOf t ≡ facts .cycle → ⊥) → Refused OtherCycle ≡ belongs facts t
-  other-cycle n = rw (ne-eqb (cycleOf t) (facts .cycle) n)
+module _ (c φ : ℕ) (t : List ℕ) where
+  pub other-cycle : (cycleOf t ≡ c → ⊥) → Refused OtherCycle ≡ belongs c φ t
+  other-cycle n = rw (ne-eqb (cycleOf t) c n)
 
-  module _ (e : cycleOf t ≡ facts .cycle) where
-    pub other-frame : (frameOf t ≡ facts .frame → ⊥) → Refused OtherCycle ≡ belongs facts t
-    other-frame n = rw (eq-eqb (cycleOf t) (facts .cycle) e, ne-eqb (frameOf t) (facts .frame) n)
+  module _ (e : cycleOf t ≡ c) where
+    pub other-frame : (frameOf t ≡ φ → ⊥) → Refused OtherCycle ≡ belongs c φ t
+    other-frame n = rw (eq-eqb (cycleOf t) c e, ne-eqb (frameOf t) φ n)
 
-    pub own : frameOf t ≡ facts .frame → Passed ≡ belongs facts t
-    own q = rw (eq-eqb (cycleOf t) (facts .cycle) e, eq-eqb (frameOf t) (facts .frame) q)
+    pub own : frameOf t ≡ φ → Passed ≡ belongs c φ t
+    own q = rw (eq-eqb (cycleOf t) c e, eq-eqb (frameOf t) φ q)
 
-pub belongs-is : (fs : List Flow) (t : List ℕ) (facts : Facts) → facts ≡ factsOf fs → belongs facts t ≡ test13 fs t
+pub belongs-is : (fs : List Flow) (t : List ℕ) (facts : Facts) → facts ≡ factsOf fs → belongs (facts .cycle) (facts .frame) t ≡ test13 fs t
 unfolding test13 factsOf
 belongs-is fs t facts e = rw e
 

@@ -10,7 +10,6 @@ use Rattle.refusals.specs.declared.Refusal.{Refusal}
 use Rattle.refusals.specs.declared.Refusal.the-variants.{OtherCycle, UnknownFlow, Overlap, PastCycle}
 use Rattle.refusals.specs.declared.Checked.{Checked}
 use Rattle.refusals.specs.Tests.{unless, lowest, against, after}
-use Rattle.lists.specs.declared.facts.Facts.{Facts}
 use Rattle.lists.specs.Lists.{flowAt}
 use Rattle.tables.specs.declared.packed.Grant.{Grant}
 use Rattle.tables.specs.Tables.{cycleOf, frameOf}
@@ -37,9 +36,9 @@ pub record Indexed (fs : List Flow) (i : ℕ) (rs : List ℕ) : Type 0 where
 abbrev pub Counts : List ℕ → List ℕ → List Grant → List ℕ → Type 0
 Counts l rs gs cs = (x : ℕ) → flowAt l (recordOf rs x) .number ≡ x → getD cs (recordOf rs x) 0 ≡ length (to x gs)
 
--- test 13 of a table, by the facts of its list
-abbrev pub belongs : Facts → List ℕ → Checked
-belongs facts t = unless (eqb (cycleOf t) (facts .cycle) && eqb (frameOf t) (facts .frame)) OtherCycle
+-- test 13 of a table, by the cycle c and the frame φ of its list
+abbrev pub belongs : ℕ → ℕ → List ℕ → Checked
+belongs c φ t = unless (eqb (cycleOf t) c && eqb (frameOf t) φ) OtherCycle
 
 -- what test 14, 17 or 18 asks of a grant, which sees those before it with the nearest first
 abbrev pub passes : Test → List Flow → List Grant → Grant → Bool

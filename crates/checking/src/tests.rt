@@ -46,13 +46,14 @@ pub fn law_tests(list: &[u8], table: &[u8]) -> Checked
     ensures { λ r. ⌜ r ≡ lawTests (flowsOf (now (list .entry))) (now (table .entry)) ⌝ }
 {
     let facts = lists::facts_of(list);
-    let whole = test_13(facts, table);
+    let cycle = facts.cycle;
+    let whole = test_13(cycle, facts.frame, table);
     if let Checked::Refused(r) = whole {
         return Checked::Refused(r);
     }
     let mut records = [ABSENT; NUMBERS];
     index(list, &mut records);
-    tests_14_to_18(list, &records, facts.cycle, table)
+    tests_14_to_18(list, &records, cycle, table)
 }
 
 // The check of a table against its list: the list by tests 1 to 7, the table's form by 11 and 12, and 13 to 18.
