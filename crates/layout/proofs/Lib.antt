@@ -8,3 +8,10 @@ pub mod Closing
 pub mod Rising
 pub mod Bounds
 pub mod Turns
+pub mod Reaching
+pub mod Housing
+pub mod Ordering
+pub mod Queueing
+pub mod Writing
+pub mod Tabling
+pub mod Printing

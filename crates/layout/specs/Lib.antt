@@ -2,3 +2,5 @@ pub mod Cells
 pub mod State
 pub mod Intervals
 pub mod Finished
+pub mod Rows
+pub mod Order

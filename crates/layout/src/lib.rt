@@ -1,18 +1,7 @@
-// The placing rule by numbers, over the frames of one window and the flows of one group.
+// The placing rule by numbers: for each frame its content and the largest overhang that its grants bear, for each flow its frame
+// and that frame's overhang when its group ended; what each step of the planner does to them, and that this is the placing rule.
 //
-// The state is lent as slices, and a caller keeps their lengths as each function asks.
-mod arrays;
-mod flows;
-mod frames;
-mod intervals;
+// It has no functions; `planner` has the code.
 mod placed;
-mod search;
 
-pub use arrays::Layout;
-pub use flows::place;
-pub use flows::settle;
-pub use frames::past;
-pub use frames::repeat;
-pub use frames::wide;
-pub use intervals::next_interval;
 pub use placed::Placed;

@@ -27,10 +27,10 @@ use Rattle.placing.proofs.Passes.{planned-done, planned-length, planned-fits, c
 use Rattle.layout.specs.declared.placed.Placed.{Placed}
 use Rattle.layout.specs.declared.placed.Placed.the-variants.{Lawful, NoFrame}
 use Rattle.layout.specs.Finished.{Finished}
-use Rattle.writing.specs.Rows.{written, Tabled}
+use Rattle.layout.specs.Rows.{written, Tabled}
 use Rattle.planner.specs.Plan.{test10, grantsPlanned, planTable}
 use Rattle.layout.proofs.Bounds.{frame-present, interval-le}
-use Rattle.writing.proofs.Printing.{table-written}
+use Rattle.layout.proofs.Printing.{table-written}
 use Rattle.tables.proofs.Meaning.{Fits, length-table}
 
 -- a list's facts, one by one

@@ -8,14 +8,14 @@ ghost use Rattle.lists.specs.Facts.{grants, factsOf};
 ghost use Rattle.lists.specs.Accepted.{Accepted};
 ghost use Rattle.tables.specs.Tables.{place};
 ghost use Rattle.planner.specs.Plan.{test10, planTable, planAnswer, planRoom};
-use grouping::place_all;
-use layout::Layout;
+use crate::arrays::Layout;
+use crate::grants::write_grants;
+use crate::groups::place_all;
 use layout::Placed;
 use lists::Facts;
 use refusals::Checked;
 use refusals::Refusal;
 use refusals::Written;
-use writing::write_grants;
 
 // Test 10 and the table, for a list that the tests before it accept, in a room that is long enough.
 fn place_and_write(list: &[u8], facts: Facts, room: &mut [u8]) -> Written

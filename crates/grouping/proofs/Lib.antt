@@ -1,2 +1,0 @@
-pub mod Reaching
-pub mod Housing

@@ -1,0 +1,133 @@
+-- `grouping::groups::add_group` meets its contract. Assumes nothing.
+use mathlib.Core.Path.{_≡_, sym, ap, _∙_}
+use Prim.Native.Nat.{ℕ, _*_, _/_, _≤_, _<_}
+use native.Mathlib.Omega.{arith}
+use lib.ListN.{length}
+use Rattle.lists.proofs.Records.{length-flows}
+use Rattle.lists.specs.Lists.{flowsOf}
+use Rattle.layout.proofs.Closing.{Leaves, narrow, left-inside, left-low, added-refused, added-all}
+use Rattle.layout.proofs.Turns.{inside-at}
+use Rattle.layout.proofs.Housing.{taken}
+use borrow.Author.Needs.{needs}
+use Rattle.planner.proofs.groups.add_group.Statement.{statement}
+use Rattle.planner.proofs.groups.add_group.Tie as tie
+
+-- the window is as wide as it has to be
+window : (c : tie.Start) → let a = c .args in (0 < a .width) × (a .width ≤ length (a .contents .now)) × (length (a .limits .now) ≡ length (a .contents .now))
+    × (length (a .contents .now) ≤ 256) × (length (a .contents .now) * a .frame < 65536)
+window c =
+    let o = c .pre .1 .2 in
+    (o .some, narrow (o .times) (c .args .width) (length (c .args .contents .now)) (o .whole) (o .positive), o .same, o .most, omega (arith, o .slots, o .low))
+
+abbrev start : tie.After-place-group → tie.Start
+start c = c .before .before .before .before .before .before .before .before .before .before .before .before .before .before .before .before .before
+
+-- what the placed group leaves
+leaves : (c : tie.After-place-group) → let a = start c .args in Leaves (a .frame) (a .interval) (a .width) (flowsOf (a .list .now)) (a .contents .now) (a .limits .now) (a .frames .now) (a .bases .now)
+    (c .before .before .before .before .before .before .before .before .before .before .repeat .last .0) (c .before .before .before .before .before .before .repeat2 .last .0) (c .place-group .last .1 .1 .1 .0) (c .place-group .last .1 .1 .1 .1 .1 .0) (c .place-group .result)
+leaves c =
+    record {
+      many = omega (arith, length-flows (start c .args .list .now));
+      many′ = omega (arith, length-flows (start c .args .list .now));
+      copied = c .before .before .before .before .before .before .before .before .before .before .repeat .ensures;
+      copied′ = c .before .before .before .before .before .before .repeat2 .ensures;
+      laid = c .place-group .ensures;
+    }
+
+repeat-requires : tie.Need-repeat-requires
+repeat-requires c κs = let w = window (c .before .before .before .before .before .before) in (w .0, w .1)
+
+repeat-requires-2 : tie.Need-repeat-requires-2
+repeat-requires-2 c κs = let w = window (c .before .before .before .before .before .before .before .before .before .before) in (w .0, omega arith)
+
+place-group-requires : tie.Need-place-group-requires
+place-group-requires c κs =
+    let s = c .before .before .before .before .before .before .before .before .before .before .before .before .before .before .before .before in
+    let w = window s in
+    let k = c .before .before .before .before .before .before .before .before .before .repeat .kept .0 in
+    let l = c .before .before .before .before .before .repeat2 .kept .0 in
+    let e : length (c .before .before .before .before .before .before .before .before .before .repeat .last .0) * s .args .frame ≡ length (s .args .contents .now) * s .args .frame = ap (λ (x : ℕ). x * s .args .frame) k in
+    (s .pre .0 .0, (l ∙ w .2 ∙ sym k, omega arith, omega arith))
+
+enum-known-placed : tie.Need-enum-known-placed
+enum-known-placed c = search needs
+
+same-length : tie.Need-same-length
+same-length c = search needs
+
+same-length-2 : tie.Need-same-length-2
+same-length-2 c = search needs
+
+same-length-3 : tie.Need-same-length-3
+same-length-3 c = search needs
+
+returns : tie.Need-returns
+returns c =
+    let g = c .before .before .before .before .before .before .before in
+    (added-refused (leaves g) (c .before .placed .given .0 .0) _ _ _ (c .before .placed .given .1), λ z. let y : _≡_ {A = ℕ} 0 1 = cc in absurd (omega arith))
+
+enum-told : tie.Need-enum-told
+enum-told c = search needs
+
+settle-group-requires : tie.Need-settle-group-requires
+settle-group-requires c κs =
+    let g = c .before .before .before .before .before .before .before .before .before .before in
+    let s = start g in
+    let a = s .args in
+    let w = window s in
+    let r = s .pre .1 in
+    let all = c .before .before .before .before .enum-told .given .1 in
+    let k = g .place-group .kept .1 .1 .1 .0 ∙ g .before .before .before .before .before .before .before .before .before .before .repeat .kept .0 in
+    let l = g .before .before .before .before .before .before .repeat2 .kept .0 in (
+      (omega (arith, g .place-group .kept .1 .1 .1 .1 .1 .0), s .pre .0 .1),
+      (
+        (l ∙ w .2 ∙ sym k, omega arith),
+        (
+          (λ i h e. rw k (inside-at (a .list .now) (a .interval) (length (a .contents .now)) (g .place-group .last .1 .1 .1 .1 .1 .0) (left-inside (leaves g) (r .0) (r .1) (r .2) all) i h e)),
+          left-low (leaves g) (r .0) (r .1) (r .2) all,
+        ),
+      ),
+    )
+
+same-length-4 : tie.Need-same-length-4
+same-length-4 c = search needs
+
+same-length-5 : tie.Need-same-length-5
+same-length-5 c = search needs
+
+same-length-6 : tie.Need-same-length-6
+same-length-6 c = search needs
+
+same-length-7 : tie.Need-same-length-7
+same-length-7 c = search needs
+
+returns-2 : tie.Need-returns-2
+returns-2 c =
+    let e = c .before .before .before .before in
+    let g = e .before .before .before .before .before .before .before .before .before .before .before in
+    let a = start g .args in
+    let r = start g .pre .1 in
+    let all = e .before .before .before .before .before .enum-told .given .1 in (
+      added-all (leaves g) (e .settle-group .last .1 .1 .1 .1 .0) (e .settle-group .last .1 .1 .1 .1 .1 .1 .0) all (e .settle-group .ensures),
+      λ z. taken (a .list .now) (a .frame) (a .interval) (a .interval / a .frame) _ _ _ _ _ _ (g .place-group .ensures) (rw (r .2 .frames) at (left-inside (leaves g) (r .0) (r .1) (r .2) all)),
+    )
+
+pub add-group-spec : {M : Type 1} → statement M
+add-group-spec =
+    tie.close
+    (tie.spec
+    repeat-requires
+    repeat-requires-2
+    place-group-requires
+    enum-known-placed
+    same-length
+    same-length-2
+    same-length-3
+    returns
+    enum-told
+    settle-group-requires
+    same-length-4
+    same-length-5
+    same-length-6
+    same-length-7
+    returns-2)

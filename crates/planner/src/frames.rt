@@ -1,0 +1,45 @@
+// The frames of a window: what passes them, and one window's cells repeated to fill a longer one.
+ghost use mathlib.Core.Path.{_≡_};
+ghost use Prim.Native.Nat.{ℕ, _-_, _*_, _<_, _≤_};
+ghost use lib.ListN.{length, take};
+ghost use Rattle.placing.specs.Rule.{rep};
+ghost use Rattle.layout.specs.Cells.{over};
+
+// The same number.
+pub(crate) fn wide(x: u16) -> u32
+    ensures { λ r. ⌜ (r ≡ x) × (r < 65536) ⌝ }
+{
+    x as u32
+}
+
+// What of t slots passes a frame.
+pub(crate) fn past(t: u32, frame: u16) -> u32
+    ensures { λ r. ⌜ r ≡ t - frame ⌝ }
+{
+    let slots = wide(frame);
+    if slots < t { t - slots } else { 0 }
+}
+
+// What passes the last of the frames.
+pub(crate) fn overhang(contents: &[u16], frame: u16) -> u32
+    requires { ⌜ length (now contents) ≤ 256 ⌝ }
+    ensures { λ r. ⌜ r ≡ over frame 0 (now (contents .entry)) ⌝ }
+{
+    let mut over: u32 = 0;
+    for k in 0..contents.len() {
+        over = past(over + wide(contents[k]), frame);
+    }
+    over
+}
+
+// The first `width` cells over and over.
+pub(crate) fn repeat(cells: &mut [u16], width: usize)
+    requires { ⌜ (0 < width) × (width ≤ length (now cells)) ⌝ }
+    ensures { λ _. ⌜ ((r : ℕ) → length (now (cells .entry)) ≡ r * width → now (cells .exit) ≡ rep r (take width (now (cells .entry)))) ⌝ }
+{
+    for k in width..cells.len() {
+        let from = k - width;
+        let cell = cells[from];
+        cells[k] = cell;
+    }
+}
