@@ -1,13 +1,13 @@
 // Document 01's tests of a packed list, in their order.
 ghost use mathlib.Core.Path.{_≡_};
-ghost use Rattle.fields.specs.Flows.{among};
+ghost use Rattle.logic.specs.Numbers.{among};
 ghost use Rattle.refusals.specs.Tests.{_⟫_};
 ghost use Rattle.lists.specs.Lists.{count, flowsOf};
 ghost use Rattle.lists.specs.Tests.{test1, test2, test3, test1exact, test4, test7, tests1to4, tests1to7};
 ghost use Rattle.accepting.specs.Parts.{headed};
-use amounts::times;
 use fields::Kind;
-use fields::Rule;
+use flows::Rule;
+use flows::times;
 use lists::count;
 use lists::facts_of;
 use lists::flow_at;

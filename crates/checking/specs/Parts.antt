@@ -5,7 +5,7 @@ use mathlib.Core.List.{List, []}
 use Prim.Native.Nat.{ℕ, _+_, _%_, _≤_}
 use lib.Dec.{leb, eqb}
 use lib.ListN.{length, getD, drop}
-use Rattle.fields.specs.declared.flow.Flow.{Flow}
+use Rattle.flows.specs.declared.flow.Flow.{Flow}
 use Rattle.refusals.specs.declared.Refusal.{Refusal}
 use Rattle.refusals.specs.declared.Refusal.the-variants.{OtherCycle, UnknownFlow, Overlap, PastCycle}
 use Rattle.refusals.specs.declared.Checked.{Checked}
@@ -13,7 +13,7 @@ use Rattle.refusals.specs.Tests.{unless, lowest, against, after}
 use Rattle.lists.specs.Lists.{flowAt}
 use Rattle.tables.specs.declared.packed.Grant.{Grant}
 use Rattle.tables.specs.Tables.{cycleOf, frameOf}
-use Rattle.checking.specs.declared.flows.Found.{Found}
+use Rattle.checking.specs.declared.finding.Found.{Found}
 use Rattle.checking.specs.declared.grants.Test.{Test}
 use Rattle.checking.specs.declared.grants.Test.the-variants.{Listed, Clears, Ends}
 use Rattle.law.specs.Check.{known, look, slots, to, listed, clears}

@@ -7,7 +7,7 @@ ghost use Rattle.tables.specs.Tables.{grantsOf};
 ghost use Rattle.law.specs.Check.{to, test15};
 ghost use Rattle.checking.specs.Parts.{Indexed, Counts};
 use crate::cells::clear;
-use crate::flows::record_of;
+use crate::finding::record_of;
 use refusals::Checked;
 use refusals::Refusal;
 
@@ -65,7 +65,7 @@ pub fn test_15(list: &[u8], records: &[u8], cycle: u16, table: &[u8], cells: &mu
     for i in 0..n {
         let f = lists::flow_at(list, i);
         if grants_of(list, records, table, cells, f.number)
-            != amounts::times(cycle, f.interval) as usize
+            != flows::times(cycle, f.interval) as usize
         {
             return Checked::Refused(Refusal::GrantCount(i + 1));
         }

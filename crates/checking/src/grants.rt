@@ -6,7 +6,7 @@ ghost use Rattle.lists.specs.Lists.{flowsOf};
 ghost use Rattle.tables.specs.Tables.{count, grantsOf};
 ghost use Rattle.law.specs.Law.{blank};
 ghost use Rattle.checking.specs.Parts.{Indexed, passes, refusalOf, grantTest};
-use crate::flows::find;
+use crate::finding::find;
 use crate::slots::clears;
 use crate::slots::ends;
 use refusals::Checked;

@@ -4,8 +4,9 @@
 mod belongs;
 mod cells;
 mod counts;
-mod flows;
+mod finding;
 mod grants;
+mod numbers;
 mod slots;
 mod tests;
 mod timing;

@@ -9,7 +9,8 @@ ghost use Rattle.tables.specs.Tables.{count, grantsOf};
 ghost use Rattle.law.specs.Check.{slots, clears};
 ghost use Rattle.law.specs.Law.{blank};
 ghost use Rattle.checking.specs.Parts.{Indexed};
-use crate::flows::find;
+use crate::finding::find;
+use crate::numbers::wide;
 use tables::Grant;
 
 // The slot behind the last that the grant takes.
@@ -18,7 +19,7 @@ fn end_of(list: &[u8], records: &[u8], g: Grant) -> u64
     ensures { λ r. ⌜ r ≡ g .start + slots (flowsOf (now (list .entry))) g ⌝ }
 {
     let f = find(list, records, g.flow).flow;
-    amounts::wide(g.start) + amounts::wide(lists::occupies(f))
+    wide(g.start) + wide(lists::occupies(f))
 }
 
 // The grant before g, record i of the table, ends where g starts, or earlier.
@@ -30,7 +31,7 @@ pub fn clears(list: &[u8], records: &[u8], table: &[u8], i: usize, g: Grant) -> 
     if i == 0 {
         return true;
     }
-    end_of(list, records, tables::grant_at(table, i - 1)) <= amounts::wide(g.start)
+    end_of(list, records, tables::grant_at(table, i - 1)) <= wide(g.start)
 }
 
 // The grant ends inside the cycle.
@@ -38,5 +39,5 @@ pub fn ends(list: &[u8], records: &[u8], cycle: u16, g: Grant) -> bool
     requires { ⌜ Indexed (flowsOf (now list)) 0 (now records) ⌝ }
     ensures { λ r. ⌜ r ≡ leb (g .start + slots (flowsOf (now (list .entry))) g) cycle ⌝ }
 {
-    end_of(list, records, g) <= amounts::wide(cycle)
+    end_of(list, records, g) <= wide(cycle)
 }

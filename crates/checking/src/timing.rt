@@ -9,8 +9,9 @@ ghost use Rattle.law.specs.Check.{nominal, last, steps, timely, test16};
 ghost use Rattle.law.specs.Law.{blank};
 ghost use Rattle.checking.specs.Parts.{Indexed};
 use crate::cells::clear;
-use crate::flows::find;
-use crate::flows::record_of;
+use crate::finding::find;
+use crate::finding::record_of;
+use crate::numbers::wide;
 use refusals::Checked;
 use refusals::Refusal;
 use tables::Grant;
@@ -36,7 +37,7 @@ fn steps(table: &[u8], i: usize, g: Grant, interval: u16) -> bool
         j -= 1;
         let earlier = tables::grant_at(table, j);
         if earlier.flow == g.flow {
-            return amounts::wide(time) == amounts::wide(nominal(earlier)) + amounts::wide(interval);
+            return wide(time) == wide(nominal(earlier)) + wide(interval);
         }
     }
     time < interval

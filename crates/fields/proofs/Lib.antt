@@ -4,5 +4,4 @@ pub mod Widths
 pub mod Records
 pub mod Places
 pub mod Runs
-pub mod Flows
 pub mod Cases

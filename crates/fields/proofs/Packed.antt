@@ -156,3 +156,12 @@ length-pack ws k vs = length-split (eights k) (join ws vs) ∙ length-eights k
 pub unpack-fit : (ws : List ℕ) (k : ℕ) (bs : List ℕ) → Fit ws (unpack ws k bs)
 unfolding unpack
 unpack-fit ws k bs = split-fit ws (join (eights k) bs)
+
+-- of six values of which the last two have no width, the first four are all
+pub four-values : (w x y z : ℕ) (vs : List ℕ) → Fit (w ∷ x ∷ y ∷ z ∷ 0 ∷ 0 ∷ []) vs → getD vs 0 0 ∷ getD vs 1 0 ∷ getD vs 2 0 ∷ getD vs 3 0 ∷ 0 ∷ 0 ∷ [] ≡ vs
+four-values w x y z vs h =
+    let six = six-values vs (sym (fit-length (w ∷ x ∷ y ∷ z ∷ 0 ∷ 0 ∷ []) vs h)) in
+    let fit = subst (Fit (w ∷ x ∷ y ∷ z ∷ 0 ∷ 0 ∷ [])) (sym six) h in
+    let e : getD vs 4 0 ≡ 0 = omega (arith, fit .1 .1 .1 .1 .0) in
+    let g : getD vs 5 0 ≡ 0 = omega (arith, fit .1 .1 .1 .1 .1 .0) in
+    rw (e, g) at six

@@ -1,4 +1,3 @@
 pub mod Packed
 pub mod Kinds
 pub mod Records
-pub mod Flows

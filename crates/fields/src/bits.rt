@@ -5,7 +5,7 @@ ghost use lib.ListN.{length};
 ghost use Rattle.fields.specs.Packed.{join, split, eights, Fit, Narrow, fits};
 
 // The number that the bytes make.
-pub fn number(s: &[u8]) -> u64
+pub(crate) fn number(s: &[u8]) -> u64
     requires { ⌜ length (now s) ≤ 8 ⌝ }
     ensures { λ r. ⌜ r ≡ join (eights (length (now (s .entry)))) (now (s .entry)) ⌝ }
 {
@@ -18,7 +18,7 @@ pub fn number(s: &[u8]) -> u64
 }
 
 // The values of the fields that make the number, taken off from the last.
-pub fn values(n: u64, widths: [u8; 6]) -> [u16; 6]
+pub(crate) fn values(n: u64, widths: [u8; 6]) -> [u16; 6]
     requires { ⌜ Narrow widths ⌝ }
     ensures { λ r. ⌜ r ≡ split widths n ⌝ }
 {
@@ -36,7 +36,7 @@ pub fn values(n: u64, widths: [u8; 6]) -> [u16; 6]
 }
 
 // Every value fits its width.
-pub fn all_fit(values: [u16; 6], widths: [u8; 6]) -> bool
+pub(crate) fn all_fit(values: [u16; 6], widths: [u8; 6]) -> bool
     requires { ⌜ Narrow widths ⌝ }
     ensures { λ r. ⌜ r ≡ fits widths values ⌝ }
 {
@@ -52,7 +52,7 @@ pub fn all_fit(values: [u16; 6], widths: [u8; 6]) -> bool
 }
 
 // The number that the values make.
-pub fn joined(values: [u16; 6], widths: [u8; 6]) -> u64
+pub(crate) fn joined(values: [u16; 6], widths: [u8; 6]) -> u64
     requires { ⌜ Narrow widths ⌝ }
     requires { ⌜ Fit widths values ⌝ }
     ensures { λ r. ⌜ r ≡ join widths values ⌝ }
@@ -67,7 +67,7 @@ pub fn joined(values: [u16; 6], widths: [u8; 6]) -> u64
 }
 
 // Fills the room with the last bytes of the number.
-pub fn put(n: u64, out: &mut [u8])
+pub(crate) fn put(n: u64, out: &mut [u8])
     ensures { λ _. ⌜ now (out .exit) ≡ split (eights (length (now (out .entry)))) n ⌝ }
 {
     let mut left = n;

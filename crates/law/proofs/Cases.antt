@@ -4,9 +4,9 @@ use mathlib.Core.Path.{_≡_, refl}
 use mathlib.Core.List.{List, [], _∷_}
 use Prim.Native.Nat.{ℕ}
 use Rattle.logic.specs.Lists.{All, every, sum}
-use Rattle.fields.specs.declared.flow.Flow.{Flow}
+use Rattle.flows.specs.declared.flow.Flow.{Flow}
 use Rattle.fields.specs.Records.{packed, valuesOf}
-use Rattle.fields.specs.Flows.{keeps, flowOf, packedFlow}
+use Rattle.flows.specs.Flows.{keeps, flowOf, packedFlow}
 use Rattle.refusals.specs.declared.Refusal.the-variants.{NotRising, UnknownFlow, GrantCount, Timing, Overlap, PastCycle}
 use Rattle.refusals.specs.declared.Checked.{Checked}
 use Rattle.refusals.specs.declared.Checked.the-variants.{Passed, Refused}

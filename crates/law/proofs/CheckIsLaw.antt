@@ -11,7 +11,7 @@ use lib.ListN.{length, length-map}
 use Rattle.logic.specs.Lists.{All}
 use Rattle.logic.proofs.Members.{Mem, all-mem, mem-all, all-imp}
 use Rattle.logic.proofs.Progressions.{progression}
-use Rattle.fields.specs.declared.flow.Flow.{Flow}
+use Rattle.flows.specs.declared.flow.Flow.{Flow}
 use Rattle.refusals.specs.declared.Checked.the-variants.{Passed}
 use Rattle.lists.specs.Facts.{occupies, cycle, grantsOf}
 use Rattle.lists.specs.Accepted.{Accepted}

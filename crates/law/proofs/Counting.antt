@@ -11,7 +11,7 @@ use Rattle.logic.specs.Lists.{All, sum}
 use Rattle.logic.proofs.Tests.{by-test, true-not-false}
 use Rattle.logic.proofs.Members.{all-imp, all-each}
 use Rattle.logic.proofs.Sums.{sum-same, sum-add, sum-zero}
-use Rattle.fields.specs.declared.flow.Flow.{Flow}
+use Rattle.flows.specs.declared.flow.Flow.{Flow}
 use Rattle.lists.specs.Accepted.{Distinct}
 use Rattle.tables.specs.declared.packed.Grant.{Grant}
 use Rattle.law.specs.Check.{known, look, to}

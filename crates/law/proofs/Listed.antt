@@ -8,7 +8,7 @@ use borrow.Author.Tests.{eqb-true, eq-eqb, ne-eqb}
 use Rattle.logic.specs.Lists.{All}
 use Rattle.logic.proofs.Tests.{by-test, true-not-false}
 use Rattle.logic.proofs.Members.{Mem, by-mem, all-mem, all-imp}
-use Rattle.fields.specs.declared.flow.Flow.{Flow}
+use Rattle.flows.specs.declared.flow.Flow.{Flow}
 use Rattle.lists.specs.Facts.{occupies}
 use Rattle.lists.specs.Accepted.{Distinct}
 use Rattle.tables.specs.declared.packed.Grant.{Grant}

@@ -7,7 +7,7 @@ use lib.ListN.{length}
 use Rattle.logic.specs.Lists.{sum}
 use Rattle.logic.proofs.Members.{all-imp}
 use Rattle.logic.proofs.Sums.{sum-same}
-use Rattle.fields.specs.declared.flow.Flow.{Flow}
+use Rattle.flows.specs.declared.flow.Flow.{Flow}
 use Rattle.refusals.specs.declared.Checked.the-variants.{Passed}
 use Rattle.lists.specs.Lists.{flowsOf}
 use Rattle.lists.specs.Facts.{occupies, cycle, grantsOf, grants, load}

@@ -7,7 +7,7 @@ use Prim.Native.Nat.{_+_, _≤_, _<_}
 use lib.ListN.{length}
 use borrow.Author.Tests.{ltb-true, lt-ltb, leb-true, le-leb, eqb-true, eq-eqb}
 use Rattle.logic.specs.Lists.{All}
-use Rattle.fields.specs.declared.flow.Flow.{Flow}
+use Rattle.flows.specs.declared.flow.Flow.{Flow}
 use Rattle.refusals.specs.declared.Refusal.the-variants.{NotRising, UnknownFlow, GrantCount, Timing, Overlap, PastCycle}
 use Rattle.refusals.specs.declared.Checked.the-variants.{Passed}
 use Rattle.refusals.specs.Tests.{_⟫_, against}

@@ -9,7 +9,7 @@ use lib.Seq.{ext-getD}
 use Rattle.logic.specs.Lists.{All}
 use Rattle.logic.proofs.Members.{all-getD, getD-all}
 use Rattle.logic.proofs.Progressions.{progression, progression-length, progression-at}
-use Rattle.fields.specs.declared.flow.Flow.{Flow}
+use Rattle.flows.specs.declared.flow.Flow.{Flow}
 use Rattle.tables.specs.declared.packed.Grant.{Grant}
 use Rattle.law.specs.Check.{nominal}
 use Rattle.law.specs.Law.{blank, nth, nominalTime, kth, actualTime, Obeys}

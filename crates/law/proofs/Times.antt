@@ -12,7 +12,7 @@ use Rattle.logic.specs.Lists.{All}
 use Rattle.logic.proofs.Tests.{by-test, true-not-false}
 use Rattle.logic.proofs.Members.{Mem}
 use Rattle.logic.proofs.Progressions.{progression}
-use Rattle.fields.specs.declared.flow.Flow.{Flow}
+use Rattle.flows.specs.declared.flow.Flow.{Flow}
 use Rattle.refusals.specs.Tests.{against}
 use Rattle.refusals.proofs.Lowest.{Pass}
 use Rattle.lists.specs.Accepted.{Distinct}

@@ -10,9 +10,9 @@ use lib.ListN.{length}
 use borrow.Author.Tests.{eqb-true}
 use Rattle.logic.proofs.Tests.{by-lt}
 use Rattle.logic.proofs.Members.{Mem, by-mem, all-mem}
-use Rattle.fields.specs.declared.flow.Flow.{Flow}
-use Rattle.fields.specs.Flows.{keeps}
-use Rattle.fields.proofs.Flows.{Keeps, keeps-is}
+use Rattle.flows.specs.declared.flow.Flow.{Flow}
+use Rattle.flows.specs.Flows.{keeps}
+use Rattle.flows.proofs.Flows.{Keeps, keeps-is}
 use Rattle.lists.specs.Facts.{occupies, related, cycle, least, frame}
 use Rattle.lists.specs.Accepted.{Related, Accepted}
 

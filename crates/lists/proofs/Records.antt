@@ -6,14 +6,14 @@ use native.Mathlib.Omega.{arith}
 use lib.ListN.{length, getD, take, drop, length-drop}
 use Rattle.logic.proofs.Indices.{length-from, entry-is}
 use Rattle.fields.specs.declared.kind.Kind.the-variants.{ListRecord}
-use Rattle.fields.specs.declared.flow.Flow.{Flow}
+use Rattle.flows.specs.declared.flow.Flow.{Flow}
 use Rattle.fields.specs.declared.record.Stored.{Stored}
 use Rattle.fields.specs.declared.record.Stored.the-variants.{Short}
 use Rattle.fields.specs.Records.{stored, roomAfter}
-use Rattle.fields.specs.Flows.{noFlow, flowOf, fieldsOf}
+use Rattle.flows.specs.Flows.{noFlow, flowOf, fieldsOf}
 use Rattle.logic.proofs.Parts.{part-to-end}
 use Rattle.fields.proofs.Places.{ends-beyond, ends-part}
-use Rattle.fields.proofs.Flows.{flow-short}
+use Rattle.flows.proofs.Flows.{flow-short}
 use Rattle.lists.specs.Lists.{place, count, flowAt, flowsFrom, flowsOf, recordStored, recordAfter}
 
 -- ---- reading

@@ -10,10 +10,11 @@ use lib.Seq.{drop-at, drop-drop, getD-drop}
 use Rattle.logic.specs.Lists.{All}
 use Rattle.logic.proofs.Members.{all-imp}
 use Rattle.fields.specs.declared.kind.Kind.the-variants.{ListHead}
-use Rattle.fields.specs.declared.flow.Flow.{Flow}
-use Rattle.fields.specs.Flows.{keeps, flowOf, packedFlow}
+use Rattle.flows.specs.declared.flow.Flow.{Flow}
+use Rattle.flows.specs.Flows.{keeps, flowOf, packedFlow}
 use Rattle.fields.proofs.Records.{length-packed, values-packed, values-fit, packed-front}
-use Rattle.fields.proofs.Flows.{keeps-is, length-packed-flow, flow-packed, four-values, packed-flow}
+use Rattle.fields.proofs.Packed.{four-values}
+use Rattle.flows.proofs.Flows.{keeps-is, length-packed-flow, flow-packed, packed-flow}
 use Rattle.fields.proofs.Runs.{run, entries, Again, length-run, entries-run, run-entries}
 use Rattle.refusals.specs.declared.Checked.the-variants.{Passed}
 use Rattle.refusals.proofs.Chains.{both-passed, passed-both}

@@ -8,8 +8,8 @@ use native.Mathlib.Omega.{arith}
 use lib.ListN.{length, getD, drop, drop-of-length-le}
 use lib.Seq.{drop-cons}
 use Rattle.logic.specs.Lists.{sum}
-use Rattle.fields.specs.declared.flow.Flow.{Flow}
-use Rattle.fields.specs.Flows.{noFlow}
+use Rattle.flows.specs.declared.flow.Flow.{Flow}
+use Rattle.flows.specs.Flows.{noFlow}
 use Rattle.lists.specs.Facts.{cycle, least, frame}
 
 -- the smallest of i and the intervals is at most i

@@ -9,8 +9,9 @@ use lib.ListN.{length, getD}
 use borrow.Author.Tests.{lt-leb, le-leb, eq-eqb, ne-eqb, leb-true, eqb-true}
 use Rattle.logic.specs.Lists.{All}
 use Rattle.logic.proofs.Tests.{by-test, and-both}
-use Rattle.fields.specs.declared.flow.Flow.{Flow}
-use Rattle.fields.specs.Flows.{among, keeps}
+use Rattle.flows.specs.declared.flow.Flow.{Flow}
+use Rattle.logic.specs.Numbers.{among}
+use Rattle.flows.specs.Flows.{keeps}
 use Rattle.refusals.specs.declared.Refusal.{Refusal}
 use Rattle.refusals.specs.declared.Refusal.the-variants.{Length, Head, Count, Field, Limits}
 use Rattle.refusals.specs.declared.Checked.{Checked}

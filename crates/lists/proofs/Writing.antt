@@ -8,13 +8,13 @@ use lib.ListN.{length, take, drop, length-drop}
 use lib.Seq.{sets, drop-drop}
 use Rattle.logic.proofs.Rooms.{sets-append, sets-front, sets-between}
 use Rattle.fields.specs.declared.kind.Kind.the-variants.{ListHead, ListRecord}
-use Rattle.fields.specs.declared.flow.Flow.{Flow}
+use Rattle.flows.specs.declared.flow.Flow.{Flow}
 use Rattle.fields.specs.Kinds.{widths}
 use Rattle.fields.specs.Records.{roomAfter}
-use Rattle.fields.specs.Flows.{fieldsOf, packedFlow}
+use Rattle.flows.specs.Flows.{fieldsOf, packedFlow}
 use Rattle.fields.proofs.Packed.{fit-fits}
 use Rattle.fields.proofs.Records.{ends-done}
-use Rattle.fields.proofs.Flows.{Keeps, keeps-fit, length-packed-flow}
+use Rattle.flows.proofs.Flows.{Keeps, keeps-fit, length-packed-flow}
 use Rattle.lists.specs.Lists.{headFields, head, place, records, listOf, recordAfter}
 use Rattle.lists.proofs.RoundTrip.{length-head}
 

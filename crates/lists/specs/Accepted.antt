@@ -5,8 +5,8 @@ use mathlib.Core.List.{List, [], _∷_}
 use Prim.Native.Nat.{_/_, _≤_, _<_}
 use lib.ListN.{length}
 use Rattle.logic.specs.Lists.{All}
-use Rattle.fields.specs.declared.flow.Flow.{Flow}
-use Rattle.fields.specs.Flows.{keeps}
+use Rattle.flows.specs.declared.flow.Flow.{Flow}
+use Rattle.flows.specs.Flows.{keeps}
 use Rattle.lists.specs.Facts.{related, cycle, frame, grants}
 
 -- no number is used twice

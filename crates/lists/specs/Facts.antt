@@ -4,7 +4,7 @@ use mathlib.Core.List.{List, [], _∷_}
 use Prim.Native.Nat.{ℕ, _*_, _/_, _%_, max, min}
 use lib.Dec.{eqb}
 use Rattle.logic.specs.Lists.{sum}
-use Rattle.fields.specs.declared.flow.Flow.{Flow}
+use Rattle.flows.specs.declared.flow.Flow.{Flow}
 use Rattle.lists.specs.declared.facts.Facts.{Facts}
 
 -- the slots that each grant of a flow takes

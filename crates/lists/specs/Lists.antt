@@ -3,10 +3,10 @@ use Prim.Native.Nat.{ℕ, zero, suc, _+_, _-_, _*_}
 use mathlib.Core.List.{List, [], _∷_, _++_}
 use lib.ListN.{length, getD, take, drop}
 use Rattle.fields.specs.declared.kind.Kind.the-variants.{ListHead, ListRecord}
-use Rattle.fields.specs.declared.flow.Flow.{Flow}
+use Rattle.flows.specs.declared.flow.Flow.{Flow}
 use Rattle.fields.specs.declared.record.Stored.{Stored}
 use Rattle.fields.specs.Records.{packed, valuesOf, stored, roomAfter}
-use Rattle.fields.specs.Flows.{fieldsOf, flowOf, packedFlow}
+use Rattle.flows.specs.Flows.{fieldsOf, flowOf, packedFlow}
 
 -- the fields of the head of a list of n records: edition 1, kind 1, spare bits, count
 abbrev pub headFields : ℕ → List ℕ

@@ -2,7 +2,7 @@
 use mathlib.Core.List.{List}
 use Prim.Native.Nat.{ℕ, _*_}
 use Rattle.logic.specs.Lists.{sum}
-use Rattle.fields.specs.declared.flow.Flow.{Flow}
+use Rattle.flows.specs.declared.flow.Flow.{Flow}
 use Rattle.lists.specs.declared.facts.Span.{Span}
 use Rattle.lists.specs.declared.facts.Totals.{Totals}
 use Rattle.lists.specs.Facts.{occupies, cycle, frame, grantsOf}

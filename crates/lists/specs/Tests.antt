@@ -5,8 +5,9 @@ use Prim.Native.Nat.{ℕ, _/_}
 use lib.Dec.{leb, eqb}
 use lib.ListN.{length, getD}
 use Rattle.logic.specs.Lists.{every}
-use Rattle.fields.specs.declared.flow.Flow.{Flow}
-use Rattle.fields.specs.Flows.{among, keeps}
+use Rattle.flows.specs.declared.flow.Flow.{Flow}
+use Rattle.logic.specs.Numbers.{among}
+use Rattle.flows.specs.Flows.{keeps}
 use Rattle.refusals.specs.declared.Refusal.the-variants.{Length, Head, Count, Field, UsedNumber, Unrelated, Limits}
 use Rattle.refusals.specs.declared.Checked.{Checked}
 use Rattle.refusals.specs.Tests.{_⟫_, unless, lowest, against}

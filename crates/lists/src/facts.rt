@@ -1,15 +1,13 @@
 // What a list's flows say together: cycle, frame, grants and load.
 ghost use mathlib.Core.Path.{_≡_};
+ghost use Prim.Native.Nat.{_<_, max, min};
 ghost use Rattle.lists.specs.Lists.{flowsOf};
 ghost use Rattle.lists.specs.Facts.{occupies, factsOf};
 ghost use Rattle.lists.specs.Parts.{spanOf, totalsOf};
 use crate::packed::count;
 use crate::packed::flow_at;
-use amounts::larger;
-use amounts::smaller;
-use amounts::times;
-use amounts::wide;
-use fields::Flow;
+use flows::Flow;
+use flows::times;
 
 // The largest and the smallest interval, the grants in a cycle and the slots that they take.
 pub struct Facts {
@@ -36,6 +34,27 @@ pub fn occupies(f: Flow) -> u16
     ensures { λ r. ⌜ r ≡ occupies f ⌝ }
 {
     f.size
+}
+
+// The same number.
+fn wide(x: u16) -> u64
+    ensures { λ r. ⌜ (r ≡ x) × (r < 65536) ⌝ }
+{
+    x as u64
+}
+
+// The larger of the two.
+fn larger(a: u16, b: u16) -> u16
+    ensures { λ r. ⌜ (r ≡ max a b) × (r < 65536) ⌝ }
+{
+    if a < b { b } else { a }
+}
+
+// The smaller of the two.
+fn smaller(a: u16, b: u16) -> u16
+    ensures { λ r. ⌜ r ≡ min a b ⌝ }
+{
+    if a < b { a } else { b }
 }
 
 // The list's cycle, frame, grants and load. Of a list that its tests refuse they are those of the records that are there.

@@ -5,9 +5,9 @@ ghost use lib.ListN.{length};
 ghost use Rattle.fields.specs.declared.kind.Kind.the-variants.{ListHead};
 ghost use Rattle.fields.specs.Records.{stored, roomAfter};
 ghost use Rattle.lists.specs.Lists.{count, flowAt, headFields, recordStored, recordAfter};
-use fields::Flow;
 use fields::Kind;
 use fields::Stored;
+use flows::Flow;
 
 // How many records the head says.
 pub fn count(list: &[u8]) -> usize
@@ -27,7 +27,7 @@ pub fn flow_at(list: &[u8], i: usize) -> Flow
         return Flow::NONE;
     }
     let start = 4 + 6 * i;
-    fields::read_flow(&list[start..end])
+    flows::read(&list[start..end])
 }
 
 // Puts the head of a list of n records at the room's front; the rest stays, and all of it where the answer is not `Done`.
@@ -48,5 +48,5 @@ pub fn write_record(f: Flow, i: usize, room: &mut [u8]) -> Stored
         return Stored::Short;
     }
     let start = 4 + 6 * i;
-    fields::write_flow(f, &mut room[start..end])
+    flows::write(f, &mut room[start..end])
 }

@@ -3,8 +3,9 @@ use mathlib.Core.Path.{_≡_, refl}
 use mathlib.Core.Bool.{Bool, true, false, _&&_}
 use Prim.Native.Nat.{ℕ, _≤_, _<_}
 use native.Mathlib.Omega.{arith}
-use lib.Dec.{ltb, eqb}
-use borrow.Author.Tests.{ltb-true, ltb-false, eqb-true, eqb-false}
+use lib.Dec.{leb, ltb, eqb}
+use borrow.Author.Tests.{leb-true, ltb-true, ltb-false, eqb-true, eqb-false}
+use Rattle.logic.specs.Numbers.{among}
 
 pub by-test {ℓ} : {P : Type ℓ} (b : Bool) → (b ≡ true → P) → (b ≡ false → P) → P
 by-test true f g = f refl
@@ -31,3 +32,9 @@ and-both false b e = true-not-false (cc)
 
 pub both-and : (a b : Bool) → a ≡ true → b ≡ true → a && b ≡ true
 both-and a b p q = rw (p, q)
+
+-- a number of a range, as orders
+pub among-both : (a b x : ℕ) → among a b x ≡ true → (a ≤ x) × (x ≤ b)
+among-both a b x h =
+    let both = and-both (leb a x) (leb x b) h in
+    (leb-true a x (both .0), leb-true x b (both .1))

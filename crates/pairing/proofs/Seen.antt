@@ -13,8 +13,8 @@ use borrow.Author.Tests.{eq-eqb, ne-eqb}
 use Rattle.logic.specs.Lists.{All, every}
 use Rattle.logic.proofs.Tests.{by-eq, both-and}
 use Rattle.logic.proofs.Members.{all-imp}
-use Rattle.fields.specs.declared.flow.Flow.{Flow}
-use Rattle.fields.specs.Flows.{noFlow}
+use Rattle.flows.specs.declared.flow.Flow.{Flow}
+use Rattle.flows.specs.Flows.{noFlow}
 use Rattle.refusals.proofs.Walks.{before}
 use Rattle.lists.specs.Lists.{count, flowAt, flowsOf}
 use Rattle.lists.specs.Facts.{related}

@@ -5,8 +5,8 @@ use mathlib.Core.List.{List}
 use Prim.Native.Nat.{ℕ, suc, _+_, _≤_, _<_}
 use lib.ListN.{getD}
 use Rattle.logic.specs.Lists.{every}
-use Rattle.fields.specs.declared.flow.Flow.{Flow}
-use Rattle.fields.specs.Flows.{noFlow}
+use Rattle.flows.specs.declared.flow.Flow.{Flow}
+use Rattle.flows.specs.Flows.{noFlow}
 use Rattle.refusals.specs.declared.Checked.the-variants.{Passed, Refused}
 use Rattle.refusals.proofs.Walks.{before, walk-next, walk-here, walk-end}
 use Rattle.lists.specs.Lists.{count, flowAt, flowsOf}

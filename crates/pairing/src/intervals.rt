@@ -59,7 +59,7 @@ fn keep(kept: &mut [u16], k: usize, x: u16) -> usize
 }
 
 // How many records, from the first on, pass test 6: all that do, unless more intervals differ than there is room for.
-pub fn related_up_to(list: &[u8]) -> usize
+pub(crate) fn related_up_to(list: &[u8]) -> usize
     ensures { λ r. ⌜ Settled Pair.Interval (flowsOf (now (list .entry))) r ⌝ }
 {
     let n = count(list);

@@ -28,7 +28,7 @@ fn note(bits: &mut [u8], x: u16) -> bool
 }
 
 // How many records, from the first on, pass test 5: all that do, unless a number has no bit.
-pub fn new_up_to(list: &[u8]) -> usize
+pub(crate) fn new_up_to(list: &[u8]) -> usize
     ensures { λ r. ⌜ Settled Pair.Number (flowsOf (now (list .entry))) r ⌝ }
 {
     let n = count(list);

@@ -2,12 +2,12 @@
 ghost use mathlib.Core.Path.{_≡_};
 ghost use Prim.Native.Nat.{_%_, _≤_};
 ghost use lib.Dec.{eqb};
-ghost use Rattle.fields.specs.Flows.{noFlow};
+ghost use Rattle.flows.specs.Flows.{noFlow};
 ghost use Rattle.refusals.proofs.Walks.{before};
 ghost use Rattle.lists.specs.Lists.{count, flowsOf};
 ghost use Rattle.lists.specs.Facts.{related};
 ghost use Rattle.pairing.specs.Parts.{agrees, agreesWith, refusalOf, pairTest, Settled};
-use fields::Flow;
+use flows::Flow;
 use lists::count;
 use lists::flow_at;
 use refusals::Checked;
@@ -33,7 +33,7 @@ fn divides(a: u16, b: u16) -> bool
 }
 
 // The smaller interval divides the larger.
-pub fn related(a: u16, b: u16) -> bool
+pub(crate) fn related(a: u16, b: u16) -> bool
     ensures { λ r. ⌜ r ≡ related a b ⌝ }
 {
     if a < b {
@@ -78,7 +78,7 @@ fn refusal(pair: Pair, p: usize) -> Refusal
 }
 
 // Test 5 or 6: the first record that does not agree with every earlier one. Those before record `start` are known to agree.
-pub fn pair_test(pair: Pair, list: &[u8], start: usize) -> Checked
+pub(crate) fn pair_test(pair: Pair, list: &[u8], start: usize) -> Checked
     requires { ⌜ Settled pair (flowsOf (now list)) start ⌝ }
     ensures { λ r. ⌜ r ≡ pairTest pair (flowsOf (now (list .entry))) ⌝ }
 {

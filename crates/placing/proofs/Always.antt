@@ -11,7 +11,7 @@ use Rattle.logic.specs.Lists.{sum}
 use Rattle.logic.proofs.Tests.{by-test}
 use Rattle.logic.proofs.Members.{Mem, by-mem, all-mem, mem-all}
 use Rattle.logic.proofs.Sums.{sum-same}
-use Rattle.fields.specs.declared.flow.Flow.{Flow}
+use Rattle.flows.specs.declared.flow.Flow.{Flow}
 use Rattle.lists.specs.Facts.{occupies, cycle, frame, grantsOf, load}
 use Rattle.lists.specs.Accepted.{Accepted}
 use Rattle.lists.proofs.Cycle.{occupies-pos, interval-pos, interval-divides, frame-in, frame-divides, divides-cycle}

@@ -4,7 +4,7 @@ use mathlib.Core.Path.{_≡_, refl}
 use mathlib.Core.List.{List, [], _∷_, _++_}
 use Prim.Native.Nat.{ℕ}
 use Rattle.logic.specs.Lists.{All, sum}
-use Rattle.fields.specs.declared.flow.Flow.{Flow}
+use Rattle.flows.specs.declared.flow.Flow.{Flow}
 use Rattle.lists.specs.Facts.{occupies, cycle, least, frame}
 use Rattle.tables.specs.declared.packed.Grant.{Grant}
 use Rattle.placing.specs.Rule.{Outcome, done, refused, weight, content, within, lawful, takes, firstLawful, contents, olds, put, group, rep, opened, settle, groups, present, rising, intervals, layout, row, rows, planned}

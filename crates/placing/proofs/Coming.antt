@@ -10,7 +10,7 @@ use Rattle.logic.specs.Lists.{sum}
 use Rattle.logic.proofs.Tests.{by-order}
 use Rattle.logic.proofs.Members.{all-each}
 use Rattle.logic.proofs.Sums.{sum-same, sum-add, sum-times}
-use Rattle.fields.specs.declared.flow.Flow.{Flow}
+use Rattle.flows.specs.declared.flow.Flow.{Flow}
 use Rattle.lists.specs.Facts.{occupies, grantsOf}
 use Rattle.law.proofs.Counting.{mark, mark-same, mark-other}
 

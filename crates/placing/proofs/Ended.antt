@@ -5,7 +5,7 @@ use Prim.Native.Nat.{ℕ, _+_, _*_}
 use native.Mathlib.Omega.{arith}
 use lib.ListN.{length, length-map}
 use Rattle.logic.specs.Lists.{sum}
-use Rattle.fields.specs.declared.flow.Flow.{Flow}
+use Rattle.flows.specs.declared.flow.Flow.{Flow}
 use Rattle.law.proofs.Counting.{mark}
 use Rattle.placing.specs.Rule.{Settled, Frame, olds, rep, opened, settle}
 use Rattle.placing.proofs.Groups.{Grouped}

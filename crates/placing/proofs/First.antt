@@ -7,7 +7,7 @@ use Prim.Native.Nat.{ℕ, zero, suc, _+_, _<_}
 use native.Mathlib.Omega.{arith}
 use lib.ListN.{length, getD, take}
 use Rattle.logic.proofs.Tests.{by-test, by-order, true-not-false}
-use Rattle.fields.specs.declared.flow.Flow.{Flow}
+use Rattle.flows.specs.declared.flow.Flow.{Flow}
 use Rattle.lists.specs.Facts.{occupies}
 use Rattle.placing.specs.declared.Found.{Found}
 use Rattle.placing.specs.declared.Found.the-variants.{At, Nowhere}

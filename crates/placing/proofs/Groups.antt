@@ -7,7 +7,7 @@ use lib.ListN.{length}
 use borrow.Author.Tests.{eq-eqb, ne-eqb}
 use Rattle.logic.specs.Lists.{All, sum}
 use Rattle.logic.proofs.Tests.{by-eq}
-use Rattle.fields.specs.declared.flow.Flow.{Flow}
+use Rattle.flows.specs.declared.flow.Flow.{Flow}
 use Rattle.lists.specs.Facts.{occupies}
 use Rattle.law.proofs.Counting.{mark, mark-same, mark-other}
 use Rattle.placing.specs.declared.Found.{Found}

@@ -6,7 +6,7 @@ use native.Mathlib.Omega.{arith}
 use lib.ListN.{length, length-append, length-map}
 use Rattle.logic.specs.Lists.{All, sum}
 use Rattle.logic.proofs.Appends.{all-append, sum-append}
-use Rattle.fields.specs.declared.flow.Flow.{Flow}
+use Rattle.flows.specs.declared.flow.Flow.{Flow}
 use Rattle.lists.specs.Facts.{occupies}
 use Rattle.placing.specs.Rule.{Settled, Frame, weight, content, past, olds, rep, opened, settle}
 use Rattle.placing.proofs.Overhangs.{passing, Each, passing-append, each-append}

@@ -10,7 +10,7 @@ use borrow.Author.Tests.{eq-eqb, ne-eqb}
 use Rattle.logic.specs.Lists.{sum}
 use Rattle.logic.proofs.Tests.{by-test, by-eq}
 use Rattle.logic.proofs.Progressions.{progression, later, progression-later, progression-append}
-use Rattle.fields.specs.declared.flow.Flow.{Flow}
+use Rattle.flows.specs.declared.flow.Flow.{Flow}
 use Rattle.lists.specs.Facts.{occupies}
 use Rattle.law.proofs.Counting.{mark, mark-same, mark-other}
 use Rattle.placing.specs.Rule.{Settled, Frame, content, past, olds, rep, settle}

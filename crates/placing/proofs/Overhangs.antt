@@ -8,7 +8,7 @@ use lib.Dec.{leb}
 use borrow.Author.Tests.{leb-true, le-leb, eqb-true, eq-eqb}
 use Rattle.logic.specs.Lists.{All}
 use Rattle.logic.proofs.Tests.{by-test, true-not-false}
-use Rattle.fields.specs.declared.flow.Flow.{Flow}
+use Rattle.flows.specs.declared.flow.Flow.{Flow}
 use Rattle.placing.specs.Rule.{Settled, Frame, content, past, within, lawful, contents, olds}
 
 -- what passes the end of frames, of which the first has the overhang o

@@ -9,7 +9,7 @@ use lib.ListN.{length, length-map}
 use Rattle.logic.specs.Lists.{All}
 use Rattle.logic.proofs.Members.{Mem, mem-all, all-imp, all-both}
 use Rattle.logic.proofs.Progressions.{progression, progression-length}
-use Rattle.fields.specs.declared.flow.Flow.{Flow}
+use Rattle.flows.specs.declared.flow.Flow.{Flow}
 use Rattle.refusals.specs.declared.Checked.the-variants.{Passed}
 use Rattle.lists.specs.Facts.{cycle, frame, grantsOf, grants}
 use Rattle.lists.specs.Accepted.{Accepted}

@@ -4,8 +4,8 @@ use mathlib.Core.List.{List, [], _∷_}
 use Prim.Native.Nat.{ℕ, _≤_}
 use native.Mathlib.Omega.{arith}
 use Rattle.logic.specs.Lists.{sum}
-use Rattle.fields.specs.declared.flow.Flow.{Flow}
-use Rattle.fields.specs.Flows.{keeps}
+use Rattle.flows.specs.declared.flow.Flow.{Flow}
+use Rattle.flows.specs.Flows.{keeps}
 use Rattle.lists.specs.Facts.{occupies, related, cycle, least, frame, grantsOf, grants, load}
 use Rattle.lists.specs.Accepted.{Accepted}
 use Rattle.tables.specs.declared.packed.Grant.{Grant}

@@ -9,7 +9,7 @@ use Rattle.logic.specs.Lists.{All, sum}
 use Rattle.logic.proofs.Tests.{by-test, by-eq}
 use Rattle.logic.proofs.Members.{Mem, mem-all}
 use Rattle.logic.proofs.Progressions.{progression}
-use Rattle.fields.specs.declared.flow.Flow.{Flow}
+use Rattle.flows.specs.declared.flow.Flow.{Flow}
 use Rattle.lists.specs.Facts.{cycle, frame}
 use Rattle.lists.specs.Accepted.{Accepted}
 use Rattle.lists.proofs.Cycle.{interval-pos, interval-divides, frame-divides, cycle-in}

@@ -10,7 +10,7 @@ use Rattle.logic.specs.Lists.{All, sum}
 use Rattle.logic.proofs.Tests.{by-test}
 use Rattle.logic.proofs.Members.{Mem, mem-all, all-imp}
 use Rattle.logic.proofs.Appends.{all-append}
-use Rattle.fields.specs.declared.flow.Flow.{Flow}
+use Rattle.flows.specs.declared.flow.Flow.{Flow}
 use Rattle.lists.specs.Facts.{occupies}
 use Rattle.lists.specs.Accepted.{Accepted}
 use Rattle.lists.proofs.Cycle.{occupies-pos}

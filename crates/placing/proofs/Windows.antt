@@ -9,7 +9,7 @@ use lib.ListN.{length}
 use borrow.Author.Tests.{eqb-true, eq-eqb}
 use Rattle.logic.proofs.Tests.{by-test, true-not-false}
 use Rattle.logic.proofs.Members.{Mem, by-mem}
-use Rattle.fields.specs.declared.flow.Flow.{Flow}
+use Rattle.flows.specs.declared.flow.Flow.{Flow}
 use Rattle.lists.specs.Facts.{cycle, frame}
 use Rattle.placing.specs.Rule.{Outcome, done, refused, Settled, Frame, group, rep, opened, settle, groups, present, rising, intervals, layout}
 use Rattle.placing.proofs.Groups.{group-refused}

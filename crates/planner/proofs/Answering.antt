@@ -8,7 +8,7 @@ use lib.ListN.{length, take}
 use Rattle.logic.specs.Lists.{All}
 use Rattle.logic.proofs.Members.{all-imp}
 use Rattle.fields.specs.declared.kind.Kind.the-variants.{TableHead}
-use Rattle.fields.specs.declared.flow.Flow.{Flow}
+use Rattle.flows.specs.declared.flow.Flow.{Flow}
 use Rattle.fields.specs.Records.{roomAfter}
 use Rattle.refusals.specs.declared.Refusal.the-variants.{NoFrame as NoFrameAt}
 use Rattle.refusals.specs.declared.Checked.the-variants.{Passed, Refused}
@@ -24,13 +24,13 @@ use Rattle.tables.specs.declared.packed.Grant.{Grant}
 use Rattle.tables.specs.Tables.{headFields, place, tableOf}
 use Rattle.placing.specs.Rule.{Outcome, done, refused, Settled, layout, rows, planned}
 use Rattle.placing.proofs.Passes.{planned-done, planned-length, planned-fits, cycle-fits}
-use Rattle.layout.specs.declared.placed.Placed.{Placed}
-use Rattle.layout.specs.declared.placed.Placed.the-variants.{Lawful, NoFrame}
-use Rattle.layout.specs.Finished.{Finished}
-use Rattle.layout.specs.Rows.{written, Tabled}
+use Rattle.planner.specs.declared.placed.Placed.{Placed}
+use Rattle.planner.specs.declared.placed.Placed.the-variants.{Lawful, NoFrame}
+use Rattle.planner.specs.Finished.{Finished}
+use Rattle.planner.specs.Rows.{written, Tabled}
 use Rattle.planner.specs.Plan.{test10, grantsPlanned, planTable}
-use Rattle.layout.proofs.Bounds.{frame-present, interval-le}
-use Rattle.layout.proofs.Printing.{table-written}
+use Rattle.planner.proofs.Bounds.{frame-present, interval-le}
+use Rattle.planner.proofs.Printing.{table-written}
 use Rattle.tables.proofs.Meaning.{Fits, length-table}
 
 -- a list's facts, one by one

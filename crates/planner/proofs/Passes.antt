@@ -10,7 +10,7 @@ use borrow.Author.Tests.{eq-eqb, leb-true, le-ltb}
 use Rattle.logic.specs.Lists.{sum}
 use Rattle.logic.proofs.Tests.{by-lt, both-and}
 use Rattle.logic.proofs.Members.{all-imp}
-use Rattle.fields.specs.declared.flow.Flow.{Flow}
+use Rattle.flows.specs.declared.flow.Flow.{Flow}
 use Rattle.refusals.specs.declared.Refusal.the-variants.{TableForm, OtherCycle, NoFrame, Room}
 use Rattle.refusals.specs.declared.Checked.the-variants.{Passed, Refused}
 use Rattle.refusals.specs.declared.Written.the-variants.{Bytes}

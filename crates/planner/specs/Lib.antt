@@ -1,1 +1,7 @@
+pub mod Cells
+pub mod State
+pub mod Intervals
+pub mod Finished
+pub mod Rows
+pub mod Order
 pub mod Plan

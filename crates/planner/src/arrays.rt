@@ -1,7 +1,7 @@
 // The planner's state: four arrays, made for the largest list.
 ghost use mathlib.Core.Path.{_≡_};
 ghost use lib.ListN.{replicate};
-ghost use Rattle.layout.specs.Cells.{free};
+ghost use Rattle.planner.specs.Cells.{free};
 
 // For each frame of the cycle its content and the largest overhang that its grants bear; for each flow its frame and that
 // frame's overhang when its group ended.

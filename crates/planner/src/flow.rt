@@ -2,11 +2,11 @@
 ghost use mathlib.Core.Path.{_≡_};
 ghost use Prim.Native.Nat.{_*_, _<_, _≤_, min};
 ghost use lib.ListN.{length, take, getD};
-ghost use Rattle.layout.specs.Cells.{over, step, stepOf, stamp, endedOf};
+ghost use Rattle.planner.specs.Cells.{over, step, stepOf, stamp, endedOf};
 use crate::frames::overhang;
 use crate::frames::wide;
 use crate::search::first_lawful;
-use fields::Flow;
+use flows::Flow;
 use placing::Found;
 
 // Puts the flow, which has the index j, into its first lawful frame, unless it is of another group. False where there is none.

@@ -3,7 +3,7 @@ ghost use mathlib.Core.Path.{_≡_};
 ghost use Prim.Native.Nat.{ℕ, _-_, _*_, _<_, _≤_};
 ghost use lib.ListN.{length, take};
 ghost use Rattle.placing.specs.Rule.{rep};
-ghost use Rattle.layout.specs.Cells.{over};
+ghost use Rattle.planner.specs.Cells.{over};
 
 // The same number.
 pub(crate) fn wide(x: u16) -> u32

@@ -7,15 +7,15 @@ ghost use Rattle.lists.specs.Lists.{count, flowAt, flowsOf};
 ghost use Rattle.lists.specs.Facts.{frame as frameOf};
 ghost use Rattle.lists.specs.Accepted.{Accepted};
 ghost use Rattle.placing.specs.Rule.{intervals, layout};
-ghost use Rattle.layout.specs.declared.placed.Placed.the-variants.{Lawful};
-ghost use Rattle.layout.specs.Cells.{free, over, groupCells, laidOf, endCells, endedOf};
-ghost use Rattle.layout.specs.State.{Ready, Added};
-ghost use Rattle.layout.specs.Finished.{Finished, Housed, Taken};
+ghost use Rattle.planner.specs.declared.placed.Placed.the-variants.{Lawful};
+ghost use Rattle.planner.specs.Cells.{free, over, groupCells, laidOf, endCells, endedOf};
+ghost use Rattle.planner.specs.State.{Ready, Added};
+ghost use Rattle.planner.specs.Finished.{Finished, Housed, Taken};
 use crate::flow::place;
 use crate::flow::settle;
 use crate::frames::repeat;
 use crate::intervals::next_interval;
-use layout::Placed;
+use crate::placed::Placed;
 
 // Places the flows of one interval, in list order, in the window.
 fn place_group(

@@ -11,7 +11,7 @@ ghost use Rattle.planner.specs.Plan.{test10, planTable, planAnswer, plan
 use crate::arrays::Layout;
 use crate::grants::write_grants;
 use crate::groups::place_all;
-use layout::Placed;
+use crate::placed::Placed;
 use lists::Facts;
 use refusals::Checked;
 use refusals::Refusal;

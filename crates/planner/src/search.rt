@@ -2,7 +2,7 @@
 ghost use mathlib.Core.Path.{_≡_};
 ghost use Prim.Native.Nat.{_≤_};
 ghost use lib.ListN.{length, drop};
-ghost use Rattle.layout.specs.Cells.{first, stops};
+ghost use Rattle.planner.specs.Cells.{first, stops};
 use crate::frames::past;
 use crate::frames::wide;
 use placing::Found;

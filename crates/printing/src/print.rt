@@ -6,7 +6,7 @@ ghost use lib.Seq.{sets};
 ghost use Rattle.lists.specs.Lists.{flowsFrom};
 ghost use Rattle.sheets.specs.Texts.{piece, line, text};
 ghost use Rattle.sheets.specs.Answers.{sheetAnswer, sheetRoom};
-use fields::Flow;
+use flows::Flow;
 use refusals::Checked;
 use refusals::Refusal;
 use refusals::Written;

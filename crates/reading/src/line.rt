@@ -3,7 +3,7 @@ ghost use mathlib.Core.Path.{_≡_};
 ghost use Prim.Native.Nat.{_≤_};
 ghost use lib.ListN.{length};
 ghost use Rattle.sheets.specs.Reader.{endedAt, lineAt};
-use fields::Flow;
+use flows::Flow;
 use sheets::EVERY;
 use sheets::FEED;
 use sheets::FLOW;
@@ -32,7 +32,7 @@ fn ended(sheet: &[u8], at: usize, f: Flow) -> LineAt
 }
 
 // The line that starts at a place: the four words in order, a number behind each, and a line feed.
-pub fn line_at(sheet: &[u8], at: usize) -> LineAt
+pub(crate) fn line_at(sheet: &[u8], at: usize) -> LineAt
     ensures { λ r. ⌜ r ≡ lineAt at (now (sheet .entry)) ⌝ }
 {
     let n = words::number_after(sheet, at, &FLOW);

@@ -2,14 +2,14 @@
 ghost use mathlib.Core.Path.{_≡_};
 ghost use Prim.Native.Nat.{_≤_};
 ghost use lib.ListN.{length};
-ghost use Rattle.fields.specs.Flows.{keeps};
+ghost use Rattle.flows.specs.Flows.{keeps};
 ghost use Rattle.refusals.specs.declared.Refusal.the-variants.{Field};
 ghost use Rattle.refusals.specs.Tests.{_⟫_, unless};
 ghost use Rattle.sheets.specs.Tests.{surveyOf};
 ghost use Rattle.sheets.specs.Reader.{Recorded};
 use crate::line::line_at;
-use fields::Flow;
-use fields::Rule;
+use flows::Flow;
+use flows::Rule;
 use refusals::Checked;
 use refusals::Refusal;
 use sheets::Line;
@@ -30,7 +30,7 @@ fn ruled(before: Checked, f: Flow, n: usize) -> Checked
 
 // Tests 20, 3 and 4 in their order. The first bad line ends the look, so test 4 is answered only where every line is good. Each
 // line's flow is written into the list as it is read; where the sheet passes, all its records then stand there.
-pub fn survey_of(sheet: &[u8], list: &mut [u8]) -> Survey
+pub(crate) fn survey_of(sheet: &[u8], list: &mut [u8]) -> Survey
     requires { ⌜ 772 ≤ length (now list) ⌝ }
     ensures { λ r. ⌜ r ≡ surveyOf (now (sheet .entry)) ⌝ }
     ensures { λ _. ⌜ Recorded (now (sheet .entry)) (now (list .entry)) (now (list .exit)) ⌝ }

@@ -5,7 +5,7 @@ use Prim.Native.Nat.{ℕ, zero, suc}
 use lib.ListN.{length, drop, replicate}
 use Rattle.logic.specs.Lists.{All}
 use Rattle.fields.specs.Records.{packed, valuesOf}
-use Rattle.fields.specs.Flows.{keeps, flowOf, packedFlow}
+use Rattle.flows.specs.Flows.{keeps, flowOf, packedFlow}
 use Rattle.refusals.specs.declared.Refusal.the-variants.{Length, Head, Count, Field, Room, Line}
 use Rattle.refusals.specs.declared.Written.{Written}
 use Rattle.refusals.specs.declared.Written.the-variants.{Bytes, Refused}

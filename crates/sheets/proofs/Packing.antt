@@ -9,10 +9,10 @@ use lib.Seq.{sets, length-sets, take-at, drop-at}
 use Rattle.logic.specs.Lists.{All}
 use Rattle.logic.proofs.Rooms.{sets-append, sets-between}
 use Rattle.fields.specs.declared.kind.Kind.the-variants.{ListHead}
-use Rattle.fields.specs.declared.flow.Flow.{Flow}
+use Rattle.flows.specs.declared.flow.Flow.{Flow}
 use Rattle.fields.specs.Records.{roomAfter}
-use Rattle.fields.specs.Flows.{keeps, packedFlow}
-use Rattle.fields.proofs.Flows.{keeps-is, length-packed-flow}
+use Rattle.flows.specs.Flows.{keeps, packedFlow}
+use Rattle.flows.proofs.Flows.{keeps-is, length-packed-flow}
 use Rattle.words.specs.Places.{putAt}
 use Rattle.words.proofs.Places.{put-fits}
 use Rattle.lists.specs.Lists.{headFields, head, place, records, listOf, recordAfter}

@@ -7,7 +7,7 @@ use native.Mathlib.Omega.{arith}
 use lib.ListN.{length, length-append}
 use lib.Seq.{sets}
 use Rattle.logic.proofs.Rooms.{sets-append}
-use Rattle.fields.specs.declared.flow.Flow.{Flow}
+use Rattle.flows.specs.declared.flow.Flow.{Flow}
 use Rattle.lists.specs.Lists.{count, flowAt, flowsFrom, flowsOf}
 use Rattle.sheets.specs.Texts.{line, text}
 use Rattle.sheets.proofs.Texts.{text-none, text-is}

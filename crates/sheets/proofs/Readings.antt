@@ -5,7 +5,7 @@ use mathlib.Core.List.{List, [], map}
 use Prim.Native.Nat.{ℕ, _+_, _-_}
 use lib.Dec.{eqb}
 use lib.ListN.{length, take, drop}
-use Rattle.fields.specs.declared.flow.Flow.{Flow}
+use Rattle.flows.specs.declared.flow.Flow.{Flow}
 use Rattle.words.specs.declared.number.Number.{Number}
 use Rattle.words.specs.declared.number.Number.the-variants.{Is, Nothing}
 use Rattle.words.specs.Words.{starts}

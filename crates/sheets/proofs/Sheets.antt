@@ -6,9 +6,9 @@ use mathlib.Core.List.{List, [], _∷_, _++_, map}
 use Prim.Native.Nat.{ℕ}
 use native.Mathlib.Omega.{arith}
 use Rattle.logic.specs.Lists.{All}
-use Rattle.fields.specs.declared.flow.Flow.{Flow}
-use Rattle.fields.specs.Flows.{keeps}
-use Rattle.fields.proofs.Flows.{keeps-is}
+use Rattle.flows.specs.declared.flow.Flow.{Flow}
+use Rattle.flows.specs.Flows.{keeps}
+use Rattle.flows.proofs.Flows.{keeps-is}
 use Rattle.refusals.specs.declared.Refusal.the-variants.{Line as AtLine}
 use Rattle.refusals.specs.declared.Checked.the-variants.{Passed}
 use Rattle.refusals.specs.Tests.{lowest}

@@ -10,7 +10,7 @@ use Rattle.refusals.specs.declared.Checked.{Checked}
 use Rattle.refusals.specs.declared.Checked.the-variants.{Passed, Refused}
 use Rattle.refusals.proofs.Chains.{both-passed}
 use Rattle.logic.specs.Lists.{All}
-use Rattle.fields.specs.Flows.{keeps}
+use Rattle.flows.specs.Flows.{keeps}
 use Rattle.lists.specs.Tests.{test3, test4}
 use Rattle.lists.proofs.Verdicts.{few-passed, kept-exactly}
 use Rattle.sheets.specs.declared.survey.Survey.the-variants.{Lines, Refused as Faulty}

@@ -10,7 +10,7 @@ use Rattle.words.specs.Decimals.{width, decimal}
 use Rattle.words.specs.Places.{behind, putAt}
 use Rattle.words.proofs.Decimals.{length-decimal, width-le}
 use Rattle.words.proofs.Places.{put-fits}
-use Rattle.fields.specs.declared.flow.Flow.{Flow}
+use Rattle.flows.specs.declared.flow.Flow.{Flow}
 use Rattle.sheets.specs.Texts.{flow, size, every, jitter, feed, piece, line, text}
 
 -- ---- a word and a number

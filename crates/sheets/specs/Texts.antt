@@ -1,7 +1,7 @@
 -- Document 01's "The sheet": its words, and the text of flows. Assumes nothing.
 use Prim.Native.Nat.{ℕ}
 use mathlib.Core.List.{List, [], _∷_, _++_}
-use Rattle.fields.specs.declared.flow.Flow.{Flow}
+use Rattle.flows.specs.declared.flow.Flow.{Flow}
 use Rattle.words.specs.Characters.{bytes}
 use Rattle.words.specs.Decimals.{decimal}
 

@@ -1,5 +1,5 @@
 // A line of a sheet.
-use fields::Flow;
+use flows::Flow;
 
 // What a line says.
 pub enum Line {

@@ -7,8 +7,8 @@ use lib.Dec.{leb, eqb}
 use lib.ListN.{length, getD}
 use borrow.Author.Tests.{le-leb, eq-eqb, ne-eqb, leb-true, eqb-true}
 use Rattle.logic.proofs.Tests.{by-test, and-both}
-use Rattle.fields.specs.Flows.{among}
-use Rattle.fields.proofs.Flows.{among-both}
+use Rattle.logic.specs.Numbers.{among}
+use Rattle.logic.proofs.Tests.{among-both}
 use Rattle.tables.specs.Tables.{headOf, count, place}
 use Rattle.tables.specs.Form.{headed, spared, formed}
 

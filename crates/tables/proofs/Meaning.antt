@@ -16,7 +16,7 @@ use Rattle.fields.specs.Kinds.{widths}
 use Rattle.fields.specs.Records.{packed, valuesOf}
 use Rattle.fields.proofs.Packed.{fit-length, six-values}
 use Rattle.fields.proofs.Records.{length-packed, values-packed, values-fit, packed-front}
-use Rattle.fields.proofs.Flows.{four-values}
+use Rattle.fields.proofs.Packed.{four-values}
 use Rattle.fields.proofs.Runs.{run, entries, Again, length-run, entries-run, run-entries}
 use Rattle.tables.specs.declared.packed.Grant.{Grant}
 use Rattle.tables.specs.Tables.{headFields, head, headOf, count, cycleOf, frameOf, place, valuesAt, grantWith, grantAt, spareAt, grantsFrom, grantsOf, fieldsOf, records, tableOf}

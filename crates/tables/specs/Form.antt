@@ -4,7 +4,7 @@ use mathlib.Core.List.{List, []}
 use Prim.Native.Nat.{ℕ, zero, suc}
 use lib.Dec.{leb, ltb, eqb}
 use lib.ListN.{length, getD}
-use Rattle.fields.specs.Flows.{among}
+use Rattle.logic.specs.Numbers.{among}
 use Rattle.refusals.specs.declared.Refusal.the-variants.{TableForm, NotRising}
 use Rattle.refusals.specs.declared.Checked.{Checked}
 use Rattle.refusals.specs.Tests.{_⟫_, unless, lowest, against, after}

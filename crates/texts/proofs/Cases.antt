@@ -6,9 +6,9 @@ use Rattle.logic.specs.Lists.{All, sum}
 use Rattle.words.specs.Characters.{bytes}
 use Rattle.words.specs.Decimals.{digits}
 use Rattle.words.specs.Whole.{figuresTo, figures, numeral}
-use Rattle.fields.specs.declared.flow.Flow.{Flow}
+use Rattle.flows.specs.declared.flow.Flow.{Flow}
 use Rattle.fields.specs.Records.{packed, valuesOf}
-use Rattle.fields.specs.Flows.{flowOf, packedFlow}
+use Rattle.flows.specs.Flows.{flowOf, packedFlow}
 use Rattle.refusals.specs.declared.Refusal.the-variants.{Overload, NoFrame, Line}
 use Rattle.lists.specs.Lists.{head as listHead, headOf as listHeadOf, count as listCount, flowAt, flowsFrom, flowsOf, records as listRecords, listOf}
 use Rattle.lists.specs.Facts.{occupies, cycle, grantsOf, load}

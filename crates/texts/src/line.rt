@@ -26,7 +26,7 @@ fn put_piece(w: &[u8], v: u64, room: &mut [u8], at: usize) -> usize
 }
 
 // Writes the first line of a plan at the room's front, and answers its length; the rest stays.
-pub fn put_head(cycle: u16, frame: u16, grants: usize, load: u64, room: &mut [u8]) -> usize
+pub(crate) fn put_head(cycle: u16, frame: u16, grants: usize, load: u64, room: &mut [u8]) -> usize
     requires { ⌜ length (headLine cycle frame grants load) ≤ length (now room) ⌝ }
     ensures { λ r. ⌜ (r ≡ length (headLine cycle frame grants load)) × (now (room .exit) ≡ sets (now (room .entry)) 0 (headLine cycle frame grants load)) ⌝ }
 {
@@ -38,7 +38,7 @@ pub fn put_head(cycle: u16, frame: u16, grants: usize, load: u64, room: &mut [u8
 }
 
 // Writes the line of a grant at a place of the room, and answers the place behind it; the rest stays.
-pub fn put_grant(g: Grant, room: &mut [u8], at: usize) -> usize
+pub(crate) fn put_grant(g: Grant, room: &mut [u8], at: usize) -> usize
     requires { ⌜ at + length (grantLine g) ≤ length (now room) ⌝ }
     ensures { λ r. ⌜ (r ≡ at + length (grantLine g)) × (now (room .exit) ≡ sets (now (room .entry)) at (grantLine g)) ⌝ }
 {
@@ -49,7 +49,7 @@ pub fn put_grant(g: Grant, room: &mut [u8], at: usize) -> usize
 }
 
 // Writes the line of a refusal at the room's front, and answers its length; the rest stays.
-pub fn put_refusal(number: u32, place: usize, room: &mut [u8]) -> usize
+pub(crate) fn put_refusal(number: u32, place: usize, room: &mut [u8]) -> usize
     requires { ⌜ length (refusalLine number place) ≤ length (now room) ⌝ }
     ensures { λ r. ⌜ (r ≡ length (refusalLine number place)) × (now (room .exit) ≡ sets (now (room .entry)) 0 (refusalLine number place)) ⌝ }
 {

@@ -24,7 +24,7 @@ pub fn width(v: u16) -> usize
 }
 
 // Writes the last k digits of a number at a place of the room; the rest stays.
-pub fn put_digits(v: u64, k: usize, room: &mut [u8], at: usize)
+pub(crate) fn put_digits(v: u64, k: usize, room: &mut [u8], at: usize)
     requires { ⌜ at + k ≤ length (now room) ⌝ }
     ensures { λ _. ⌜ now (room .exit) ≡ sets (now (room .entry)) at (digits k v) ⌝ }
 {

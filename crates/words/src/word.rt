@@ -24,7 +24,7 @@ pub fn begins(s: &[u8], w: &[u8]) -> bool
 }
 
 // From a place on, k bytes are within n.
-pub fn fits(at: usize, k: usize, n: usize) -> bool
+pub(crate) fn fits(at: usize, k: usize, n: usize) -> bool
     ensures { λ r. ⌜ r ≡ within at k n ⌝ }
 {
     if n < k {

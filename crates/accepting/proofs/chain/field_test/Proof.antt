@@ -5,8 +5,8 @@ use mathlib.Core.Bool.{true, false}
 use Prim.Native.Nat.{_-_, _≤_}
 use native.Mathlib.Omega.{arith}
 use borrow.Author.Needs.{needs}
-use Rattle.fields.specs.Flows.{noFlow, keeps}
-use Rattle.fields.proofs.Flows.{kept-keeps, broken-keeps}
+use Rattle.flows.specs.Flows.{noFlow, keeps}
+use Rattle.flows.proofs.Flows.{kept-keeps, broken-keeps}
 use Rattle.refusals.specs.declared.Refusal.the-variants.{Field}
 use Rattle.refusals.proofs.Walks.{walk, walk-alone, walk-next, walk-here, walk-end}
 use Rattle.lists.specs.Lists.{flowsOf}

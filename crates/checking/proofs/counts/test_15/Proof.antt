@@ -7,7 +7,7 @@ use lib.Dec.{eqb}
 use lib.ListN.{length, getD}
 use borrow.Author.Tests.{eq-eqb, ne-eqb}
 use borrow.Author.Needs.{needs}
-use Rattle.fields.specs.Flows.{noFlow}
+use Rattle.flows.specs.Flows.{noFlow}
 use Rattle.refusals.specs.declared.Refusal.the-variants.{GrantCount}
 use Rattle.refusals.proofs.Walks.{walk, walk-alone, walk-next, walk-here, walk-end}
 use Rattle.lists.specs.Lists.{flowsOf}

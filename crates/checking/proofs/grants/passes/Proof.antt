@@ -3,9 +3,9 @@
 use mathlib.Core.Path.{_≡_, ap, _∙_}
 use mathlib.Core.List.{List}
 use borrow.Author.Needs.{needs}
-use Rattle.fields.specs.declared.flow.Flow.{Flow}
+use Rattle.flows.specs.declared.flow.Flow.{Flow}
 use Rattle.tables.specs.declared.packed.Grant.{Grant}
-use Rattle.checking.specs.declared.flows.Found.{Found}
+use Rattle.checking.specs.declared.finding.Found.{Found}
 use Rattle.checking.specs.declared.grants.Test.{Test}
 use Rattle.law.specs.Check.{listed}
 use Rattle.checking.specs.Parts.{passes}

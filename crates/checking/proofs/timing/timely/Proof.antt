@@ -6,7 +6,7 @@ use borrow.Author.Needs.{needs}
 use Rattle.refusals.proofs.Walks.{before}
 use Rattle.lists.specs.Lists.{flowsOf}
 use Rattle.tables.specs.Tables.{grantsOf}
-use Rattle.checking.specs.declared.flows.Found.{Found}
+use Rattle.checking.specs.declared.finding.Found.{Found}
 use Rattle.law.specs.Check.{nominal, last, steps}
 use Rattle.law.specs.Law.{blank}
 use Rattle.law.proofs.Times.{timely-is, not-timely}

@@ -17,22 +17,22 @@ mul-start c = search needs
 add-start : tie.Need-add-start
 add-start c = search needs
 
-sub-read-flow : tie.Need-sub-read-flow
-sub-read-flow c = search needs
+sub-read : tie.Need-sub-read
+sub-read c = search needs
 
-part-read-flow-start : tie.Need-part-read-flow-start
-part-read-flow-start c = search needs
+part-read-start : tie.Need-part-read-start
+part-read-start c = search needs
 
-part-read-flow-end : tie.Need-part-read-flow-end
-part-read-flow-end c = search needs
+part-read-end : tie.Need-part-read-end
+part-read-end c = search needs
 
-read-flow-requires : tie.Need-read-flow-requires
-read-flow-requires c κs = search needs
+read-requires : tie.Need-read-requires
+read-requires c κs = search needs
 
 returns-2 : tie.Need-returns-2
 returns-2 c =
     let a = c .before .before .before .before .args in
-    c .read-flow .ensures ∙ flow-part (a .list .now) (a .i)
+    c .read .ensures ∙ flow-part (a .list .now) (a .i)
 
 pub flow-at-spec : {M : Type 1} → statement M
 flow-at-spec =
@@ -41,8 +41,8 @@ flow-at-spec =
     returns
     mul-start
     add-start
-    sub-read-flow
-    part-read-flow-start
-    part-read-flow-end
-    read-flow-requires
+    sub-read
+    part-read-start
+    part-read-end
+    read-requires
     returns-2)

@@ -16,17 +16,17 @@ mul-start c = search needs
 add-start : tie.Need-add-start
 add-start c = search needs
 
-sub-write-flow : tie.Need-sub-write-flow
-sub-write-flow c = search needs
+sub-write : tie.Need-sub-write
+sub-write c = search needs
 
-part-write-flow-start : tie.Need-part-write-flow-start
-part-write-flow-start c = search needs
+part-write-start : tie.Need-part-write-start
+part-write-start c = search needs
 
-part-write-flow-end : tie.Need-part-write-flow-end
-part-write-flow-end c = search needs
+part-write-end : tie.Need-part-write-end
+part-write-end c = search needs
 
-write-flow-requires : tie.Need-write-flow-requires
-write-flow-requires c κs = search needs
+write-requires : tie.Need-write-requires
+write-requires c κs = search needs
 
 same-length : tie.Need-same-length
 same-length c = search needs
@@ -34,7 +34,7 @@ same-length c = search needs
 returns-2 : tie.Need-returns-2
 returns-2 c =
     let a = c .before .before .before .before .before .before .args in
-    let w = c .before .before .write-flow in
+    let w = c .before .before .write in
     record-part (a .f) (a .i) (a .room .now) (w .result) (w .last .1 .0) (w .ensures .0) (w .ensures .1)
 
 pub write-record-spec : {M : Type 1} → statement M
@@ -44,9 +44,9 @@ write-record-spec =
     returns
     mul-start
     add-start
-    sub-write-flow
-    part-write-flow-start
-    part-write-flow-end
-    write-flow-requires
+    sub-write
+    part-write-start
+    part-write-end
+    write-requires
     same-length
     returns-2)

@@ -6,7 +6,7 @@ use Prim.Native.Nat.{_-_, _≤_, _<_}
 use native.Mathlib.Omega.{arith}
 use lib.ListN.{length}
 use borrow.Author.Needs.{needs}
-use Rattle.fields.specs.Flows.{noFlow}
+use Rattle.flows.specs.Flows.{noFlow}
 use Rattle.refusals.proofs.Walks.{before}
 use Rattle.lists.specs.Lists.{count, flowsOf}
 use Rattle.pairing.specs.declared.pairs.Pair.the-variants.{Interval}

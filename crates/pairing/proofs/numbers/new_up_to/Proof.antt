@@ -7,7 +7,7 @@ use native.Mathlib.Omega.{arith}
 use lib.ListN.{length}
 use borrow.Author.Tests.{not-false}
 use borrow.Author.Needs.{needs}
-use Rattle.fields.specs.Flows.{noFlow}
+use Rattle.flows.specs.Flows.{noFlow}
 use Rattle.refusals.proofs.Walks.{before}
 use Rattle.lists.specs.Lists.{count, flowsOf}
 use Rattle.pairing.specs.declared.pairs.Pair.the-variants.{Number}

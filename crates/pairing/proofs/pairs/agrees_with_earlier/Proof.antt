@@ -6,7 +6,7 @@ use native.Mathlib.Omega.{arith}
 use borrow.Author.Tests.{not-true, not-false}
 use borrow.Author.Needs.{needs}
 use Rattle.logic.specs.Lists.{every}
-use Rattle.fields.specs.Flows.{noFlow}
+use Rattle.flows.specs.Flows.{noFlow}
 use Rattle.refusals.proofs.Walks.{before}
 use Rattle.lists.specs.Lists.{flowsOf}
 use Rattle.pairing.specs.Parts.{agrees, agreesWith}

@@ -1,12 +1,12 @@
--- `layout::flows::place` meets its contract. Assumes nothing.
+-- `planner::flow::place` meets its contract. Assumes nothing.
 use mathlib.Core.Path.{sym, _∙_}
 use Prim.Native.Nat.{_+_, _<_}
 use native.Mathlib.Omega.{arith}
 use lib.ListN.{length, getD}
 use native.Mathlib.Nat.{sub-zero}
 use Rattle.lists.specs.Facts.{occupies}
-use Rattle.layout.proofs.Limits.{first-fits}
-use Rattle.layout.proofs.Groups.{step-other, step-at, step-nowhere}
+use Rattle.planner.proofs.Limits.{first-fits}
+use Rattle.planner.proofs.Grouping.{step-other, step-at, step-nowhere}
 use borrow.Author.Needs.{needs}
 use Rattle.planner.proofs.flow.place.Statement.{statement}
 use Rattle.planner.proofs.flow.place.Tie as tie

@@ -1,11 +1,11 @@
--- `layout::flows::settle` meets its contract. Assumes nothing.
+-- `planner::flow::settle` meets its contract. Assumes nothing.
 use mathlib.Core.Path.{_≡_, sym, _∙_}
 use Prim.Native.Nat.{_<_}
 use native.Mathlib.Omega.{arith}
 use lib.ListN.{length, getD, take, length-take}
 use native.Mathlib.Nat.{sub-zero}
-use Rattle.layout.specs.Cells.{over}
-use Rattle.layout.proofs.Settling.{stamp-own, stamp-other}
+use Rattle.planner.specs.Cells.{over}
+use Rattle.planner.proofs.Settling.{stamp-own, stamp-other}
 use borrow.Author.Needs.{needs}
 use Rattle.planner.proofs.flow.settle.Statement.{statement}
 use Rattle.planner.proofs.flow.settle.Tie as tie

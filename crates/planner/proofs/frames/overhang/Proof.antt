@@ -1,12 +1,12 @@
--- `layout::frames::overhang` meets its contract. Assumes nothing.
+-- `planner::frames::overhang` meets its contract. Assumes nothing.
 use mathlib.Core.Path.{_≡_, refl, sym, ap, _∙_}
 use mathlib.Core.List.{List}
 use Prim.Native.Nat.{ℕ, _-_, _*_, _≤_}
 use native.Mathlib.Omega.{arith}
 use lib.ListN.{length, take}
 use lib.Seq.{take-all}
-use Rattle.layout.specs.Cells as O
-use Rattle.layout.proofs.Runs.{over-next}
+use Rattle.planner.specs.Cells as O
+use Rattle.planner.proofs.Runs.{over-next}
 use borrow.Author.Needs.{needs}
 use Rattle.planner.proofs.frames.overhang.Statement.{statement}
 use Rattle.planner.proofs.frames.overhang.Tie as tie

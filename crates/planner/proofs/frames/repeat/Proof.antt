@@ -1,11 +1,11 @@
--- `layout::frames::repeat` meets its contract. Assumes nothing.
+-- `planner::frames::repeat` meets its contract. Assumes nothing.
 use mathlib.Core.Path.{_≡_, refl, sym, _∙_}
 use mathlib.Core.List.{_++_}
 use Prim.Native.Nat.{ℕ, _-_, _*_, _≤_}
 use native.Mathlib.Omega.{arith}
 use lib.ListN.{length, take, drop, length-set}
 use Rattle.placing.specs.Rule.{rep}
-use Rattle.layout.proofs.Copies.{repeat-start, repeat-turn, repeat-end}
+use Rattle.planner.proofs.Copies.{repeat-start, repeat-turn, repeat-end}
 use borrow.Author.Needs.{needs}
 use Rattle.planner.proofs.frames.repeat.Statement.{statement}
 use Rattle.planner.proofs.frames.repeat.Tie as tie

@@ -1,13 +1,13 @@
--- `grouping::groups::add_group` meets its contract. Assumes nothing.
+-- `planner::groups::add_group` meets its contract. Assumes nothing.
 use mathlib.Core.Path.{_≡_, sym, ap, _∙_}
 use Prim.Native.Nat.{ℕ, _*_, _/_, _≤_, _<_}
 use native.Mathlib.Omega.{arith}
 use lib.ListN.{length}
 use Rattle.lists.proofs.Records.{length-flows}
 use Rattle.lists.specs.Lists.{flowsOf}
-use Rattle.layout.proofs.Closing.{Leaves, narrow, left-inside, left-low, added-refused, added-all}
-use Rattle.layout.proofs.Turns.{inside-at}
-use Rattle.layout.proofs.Housing.{taken}
+use Rattle.planner.proofs.Closing.{Leaves, narrow, left-inside, left-low, added-refused, added-all}
+use Rattle.planner.proofs.Turns.{inside-at}
+use Rattle.planner.proofs.Housing.{taken}
 use borrow.Author.Needs.{needs}
 use Rattle.planner.proofs.groups.add_group.Statement.{statement}
 use Rattle.planner.proofs.groups.add_group.Tie as tie

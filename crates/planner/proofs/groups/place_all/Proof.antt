@@ -1,4 +1,4 @@
--- `grouping::groups::place_all` meets its contract. Assumes nothing.
+-- `planner::groups::place_all` meets its contract. Assumes nothing.
 use mathlib.Core.Path.{_≡_, refl, sym, ap, _∙_}
 use mathlib.Core.List.{List, [], _∷_, _++_}
 use Prim.Native.Nat.{ℕ, _-_, _/_, _≤_}
@@ -9,12 +9,12 @@ use lib.Seq.{length-front}
 use Rattle.logic.specs.Lists.{All}
 use Rattle.lists.specs.Lists.{flowsOf}
 use Rattle.placing.specs.Rule.{Settled}
-use Rattle.layout.specs.Intervals.{from}
-use Rattle.layout.specs.Finished.{Housed}
+use Rattle.planner.specs.Intervals.{from}
+use Rattle.planner.specs.Finished.{Housed}
 use Rattle.lists.proofs.Cycle.{frame-pos}
-use Rattle.layout.proofs.Bounds.{frames-le}
-use Rattle.layout.proofs.Reaching.{Reached, reached-start, ready-on, refused-on, next-on, reached-all, reached-end, to-come}
-use Rattle.layout.proofs.Housing.{housed-on}
+use Rattle.planner.proofs.Bounds.{frames-le}
+use Rattle.planner.proofs.Reaching.{Reached, reached-start, ready-on, refused-on, next-on, reached-all, reached-end, to-come}
+use Rattle.planner.proofs.Housing.{housed-on}
 use borrow.Author.Needs.{needs}
 use Rattle.planner.proofs.groups.place_all.Statement.{statement}
 use Rattle.planner.proofs.groups.place_all.Tie as tie

@@ -1,12 +1,12 @@
--- `grouping::groups::place_group` meets its contract. Assumes nothing.
+-- `planner::groups::place_group` meets its contract. Assumes nothing.
 use mathlib.Core.Path.{_≡_, refl, sym, ap, _∙_}
 use Prim.Native.Nat.{ℕ, _-_, _*_, _≤_}
 use native.Mathlib.Omega.{arith}
 use lib.ListN.{length}
 use borrow.Author.Tests.{not-true, not-false}
 use Rattle.lists.specs.Lists.{count, flowsOf}
-use Rattle.layout.specs.Cells.{groupCells}
-use Rattle.layout.proofs.Turns.{rest, group-turn, group-stop, group-end}
+use Rattle.planner.specs.Cells.{groupCells}
+use Rattle.planner.proofs.Turns.{rest, group-turn, group-stop, group-end}
 use borrow.Author.Needs.{needs}
 use Rattle.planner.proofs.groups.place_group.Statement.{statement}
 use Rattle.planner.proofs.groups.place_group.Tie as tie

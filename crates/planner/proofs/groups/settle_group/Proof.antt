@@ -1,12 +1,12 @@
--- `grouping::groups::settle_group` meets its contract. Assumes nothing.
+-- `planner::groups::settle_group` meets its contract. Assumes nothing.
 use mathlib.Core.Path.{_≡_, refl, sym, ap, _∙_}
 use Prim.Native.Nat.{_-_, _≤_}
 use native.Mathlib.Omega.{arith}
 use lib.ListN.{length, getD}
-use Rattle.fields.specs.declared.flow.Flow.{Flow}
+use Rattle.flows.specs.declared.flow.Flow.{Flow}
 use Rattle.lists.specs.Lists.{count, flowsOf}
-use Rattle.layout.specs.Cells.{endCells}
-use Rattle.layout.proofs.Turns.{rest, settle-turn, settle-end}
+use Rattle.planner.specs.Cells.{endCells}
+use Rattle.planner.proofs.Turns.{rest, settle-turn, settle-end}
 use borrow.Author.Needs.{needs}
 use Rattle.planner.proofs.groups.settle_group.Statement.{statement}
 use Rattle.planner.proofs.groups.settle_group.Tie as tie

@@ -1,12 +1,12 @@
--- `layout::search::first_lawful` meets its contract. Assumes nothing.
+-- `planner::search::first_lawful` meets its contract. Assumes nothing.
 use mathlib.Core.Path.{_≡_, sym, _∙_}
 use Prim.Native.Nat.{_+_, _-_, _*_, _≤_, _<_}
 use native.Mathlib.Omega.{arith}
 use lib.ListN.{length, drop}
 use mathlib.Core.Bool.{false}
 use mathlib.Core.Logic.{⊎-elim}
-use Rattle.layout.specs.Cells.{runs, opens, first}
-use Rattle.layout.proofs.Runs.{runs-out, runs-stop, runs-on, stops-in, opens-full, opens-room, first-here, first-later, first-none}
+use Rattle.planner.specs.Cells.{runs, opens, first}
+use Rattle.planner.proofs.Runs.{runs-out, runs-stop, runs-on, stops-in, opens-full, opens-room, first-here, first-later, first-none}
 use borrow.Author.Needs.{needs}
 use Rattle.planner.proofs.search.first_lawful.Statement.{statement}
 use Rattle.planner.proofs.search.first_lawful.Tie as tie

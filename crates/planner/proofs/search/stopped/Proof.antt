@@ -1,6 +1,6 @@
--- `layout::search::stopped` meets its contract. Assumes nothing.
+-- `planner::search::stopped` meets its contract. Assumes nothing.
 use mathlib.Core.Path.{sym, _∙_}
-use Rattle.layout.proofs.Runs.{stops-at, stops-end}
+use Rattle.planner.proofs.Runs.{stops-at, stops-end}
 use borrow.Author.Needs.{needs}
 use Rattle.planner.proofs.search.stopped.Statement.{statement}
 use Rattle.planner.proofs.search.stopped.Tie as tie

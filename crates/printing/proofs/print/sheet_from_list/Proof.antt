@@ -9,7 +9,7 @@ use lib.Seq.{sets}
 use Rattle.logic.proofs.Rooms.{sets-front}
 use Rattle.refusals.specs.declared.Checked.the-variants.{Passed}
 use Rattle.refusals.proofs.Rooms.{ends-refused, ends-short, ends-written}
-use Rattle.fields.specs.declared.flow.Flow.{Flow}
+use Rattle.flows.specs.declared.flow.Flow.{Flow}
 use Rattle.lists.specs.Lists.{flowsFrom, flowsOf}
 use Rattle.lists.specs.Tests.{tests1to4}
 use Rattle.lists.proofs.RoundTrip.{listed}

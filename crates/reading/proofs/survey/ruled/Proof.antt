@@ -1,7 +1,7 @@
 -- `reading::survey::ruled` meets its contract.
 -- Assumes nothing.
 use mathlib.Core.Path.{sym, _∙_}
-use Rattle.fields.proofs.Flows.{kept-keeps, broken-keeps}
+use Rattle.flows.proofs.Flows.{kept-keeps, broken-keeps}
 use borrow.Author.Needs.{needs}
 use Rattle.reading.proofs.survey.ruled.Statement.{statement}
 use Rattle.reading.proofs.survey.ruled.Tie as tie

@@ -1,6 +1,0 @@
-pub mod Cells
-pub mod State
-pub mod Intervals
-pub mod Finished
-pub mod Rows
-pub mod Order
