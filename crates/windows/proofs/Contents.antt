@@ -3,9 +3,9 @@
 use mathlib.Core.Path.{_≡_, refl, sym, ap, _∙_}
 use mathlib.Core.List.{List, [], _∷_}
 use Prim.Native.Nat.{ℕ, suc, _-_, _*_, _≤_, _<_}
-use native.Mathlib.Nat.{sub-zero, zero-add, le-of-suc-le-suc}
+use native.Mathlib.Nat.{sub-zero, zero-add}
 use native.Mathlib.Omega.{arith}
-use lib.ListN.{length, getD, take, drop}
+use lib.ListN.{getD, take, drop}
 use lib.Seq.{drop-drop}
 use borrow.Author.Tests.{le-leb, lt-leb, lt-ltb, le-ltb}
 use denote.Ref.{RefT}
@@ -78,18 +78,6 @@ module _ (a b : ℕ) where
 
   pub window-grants : (gs : List Grant) → test12 gs ≡ Passed → take (before b gs - before a gs) (drop (before a gs) gs) ≡ startingIn a b gs
   window-grants gs e = cut gs (rises-all gs e)
-
--- ---- where an end of the stretch stands
-
-module _ (a : ℕ) (none : Grant) where
-  -- the grant behind it, where there is one, starts at a or later
-  pub first-from : (gs : List Grant) → before a gs < length gs → a ≤ getD gs (before a gs) none .start
-  unfolding before
-  first-from [] h = absurd (omega arith)
-  first-from (g ∷ gs) h =
-      by-lt (g .start) a
-      (λ l. rw (lt-ltb (g .start) a l) (first-from gs (le-of-suc-le-suc (rw (lt-ltb (g .start) a l) at h))))
-      (λ l. rw (le-ltb (g .start) a l) l)
 
 -- ---- the stretch
 

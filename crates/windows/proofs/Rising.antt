@@ -61,11 +61,20 @@ module _ (none : Grant) where
         (λ l. below-before gs j (le-of-suc-le-suc (rw (lt-ltb (g .start) a l) at h)))
         (λ l. absurd (not-suc-le-zero (rw (le-ltb (g .start) a l) at h)))
 
-    -- a grant that starts at a or later is not among them
+    -- the grant behind them, where there is one, starts at a or later
+    pub first-from : (gs : List Grant) → before a gs < length gs → a ≤ getD gs (before a gs) none .start
+    unfolding before
+    first-from [] h = absurd (omega arith)
+    first-from (g ∷ gs) h =
+        by-lt (g .start) a
+        (λ l. rw (lt-ltb (g .start) a l) (first-from gs (le-of-suc-le-suc (rw (lt-ltb (g .start) a l) at h))))
+        (λ l. rw (le-ltb (g .start) a l) l)
+
+    -- no grant that starts at a or later is among them
     pub before-upto : (gs : List Grant) (j : ℕ) → a ≤ getD gs j none .start → before a gs ≤ j
     before-upto gs j l = by-lt j (before a gs) (λ h. let s = below-before gs j h in absurd (omega arith)) (λ h. h)
 
-    -- a grant that starts below a is, where the starts rise
+    -- every grant that starts below a is, where the starts rise
     pub before-past : (gs : List Grant) → Rises gs → (j : ℕ) → j < length gs → getD gs j none .start < a → j < before a gs
     unfolding before
     before-past [] h j l s = absurd (omega arith)
