@@ -134,11 +134,14 @@ module _ (c φ : ℕ) (gs : List Grant) where
     formed-table =
         is-formed (tableOf c φ gs)
         record {
-          long = omega (arith, length-table);
-          head = rw head-table;
-          counted = omega (arith, count-table, h .filled);
-          count-le = omega (arith, count-table, h .few);
-          exact = omega (arith, length-table, count-table);
+          all =
+              record {
+                long = omega (arith, length-table);
+                head = rw head-table;
+                counted = omega (arith, count-table, h .filled);
+                count-le = omega (arith, count-table, h .few);
+                exact = omega (arith, length-table, count-table);
+              };
           zeros = ap (spared (tableOf c φ gs) 0) count-table ∙ spared-records (tableOf c φ gs) 0 gs (h .fits) records-behind;
         }
 
@@ -168,19 +171,19 @@ module _ (t : List ℕ) (b : (i : ℕ) → getD t i 0 < 256) where
     head-fields : headFields (count t) (cycleOf t) (frameOf t) ≡ headOf t
     unfolding count cycleOf frameOf headOf
     head-fields =
-        let is = headed-is t (form .head) in
-        rw (is .0, is .1, is .2) at (six-values (headOf t) (sym (fit-length (widths TableHead) (headOf t) (values-fit TableHead t (form .long)))))
+        let is = headed-is t (form .all .head) in
+        rw (is .0, is .1, is .2) at (six-values (headOf t) (sym (fit-length (widths TableHead) (headOf t) (values-fit TableHead t (form .all .long)))))
 
     head-again : head (length (grantsOf t)) (cycleOf t) (frameOf t) ≡ take 8 t
     unfolding head headOf
-    head-again = rw (length-grants t, head-fields) (packed-front TableHead t (form .long) b)
+    head-again = rw (length-grants t, head-fields) (packed-front TableHead t (form .all .long) b)
 
     pub records-again : records (grantsOf t) ≡ drop 8 t
     unfolding grantsOf
     records-again =
         records-run (grantsOf t)
         ∙ ap (run written) (grants-entries t 0 (count t))
-        ∙ run-entries 5 written length-written grantOf (count t) (drop 8 t) (simp length-drop (omega (arith, form .exact))) (again 0 (count t) (omega (arith, form .exact)) (form .zeros))
+        ∙ run-entries 5 written length-written grantOf (count t) (drop 8 t) (simp length-drop (omega (arith, form .all .exact))) (again 0 (count t) (omega (arith, form .all .exact)) (form .zeros))
 
     pub table-grants : tableOf (cycleOf t) (frameOf t) (grantsOf t) ≡ t
     unfolding tableOf

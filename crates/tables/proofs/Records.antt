@@ -1,5 +1,5 @@
 -- A record of a table, read and written at its place. Assumes nothing.
-use mathlib.Core.Path.{_≡_, refl, sym, ap}
+use mathlib.Core.Path.{_≡_, refl, sym}
 use mathlib.Core.List.{List, [], _∷_, _++_}
 use Prim.Native.Nat.{ℕ, _-_, _/_, _≤_, _<_}
 use native.Mathlib.Omega.{arith}
@@ -12,7 +12,6 @@ use Rattle.fields.specs.declared.record.Stored.the-variants.{Short}
 use Rattle.fields.specs.Packed.{Fit}
 use Rattle.fields.specs.Records.{valuesOf, stored, roomAfter}
 use Rattle.fields.proofs.Records.{values-short, values-fit}
-use Rattle.logic.proofs.Parts.{part-to-end}
 use Rattle.fields.proofs.Places.{ends-beyond, ends-part}
 use Rattle.tables.specs.declared.packed.Grant.{Grant}
 use Rattle.tables.specs.Tables.{headOf, count, place, valuesAt, grantAt, grantsFrom, grantsOf, fieldsOf, recordStored, recordAfter}
@@ -23,9 +22,16 @@ pub values-beyond : (t : List ℕ) (i k : ℕ) → k ≡ (length t - 8) / 5 → 
 unfolding valuesAt
 values-beyond t i k e h = sym (values-short TableRecord (drop (place i) t) (simp length-drop (omega arith)))
 
-pub values-part : (t : List ℕ) (i : ℕ) → valuesOf TableRecord (take (length t - place i) (drop (place i) t)) ≡ valuesAt t i
+second : (vs : List ℕ) → Fit (10 ∷ 12 ∷ 12 ∷ 6 ∷ 0 ∷ 0 ∷ []) vs → getD vs 1 0 < 4096
+second (a ∷ []) f = absurd (f .1)
+second (a ∷ b ∷ vs) f = f .1 .0
+
+-- a record's start is below 4,096
+pub start-small : (t : List ℕ) (i : ℕ) (vs : List ℕ) → vs ≡ valuesAt t i → getD vs 1 0 < 4096
 unfolding valuesAt
-values-part t i = ap (valuesOf TableRecord) (part-to-end (place i) t)
+start-small t i vs e =
+    let s = drop (place i) t in
+    rw e (by-lt (length s) 5 (λ h. rw (values-short TableRecord s h) (omega arith)) (λ h. second (valuesOf TableRecord s) (values-fit TableRecord s h)))
 
 -- ---- the count
 

@@ -1,10 +1,16 @@
 // A table's form, told from the table alone: tests 11 and 12.
 ghost use mathlib.Core.Path.{_≡_};
-ghost use Rattle.tables.specs.Tables.{grantsOf};
-ghost use Rattle.tables.specs.Form.{headed, spared, formed, test11, test12, formTests};
+ghost use Prim.Native.Nat.{_-_};
+ghost use lib.ListN.{length};
+ghost use Rattle.refusals.specs.declared.Refusal.the-variants.{TableForm, NotRising};
+ghost use Rattle.refusals.specs.declared.Checked.the-variants.{Refused};
+ghost use Rattle.refusals.specs.Tests.{_⟫_, unless};
+ghost use Rattle.tables.specs.Tables.{place};
+ghost use Rattle.tables.specs.Form.{headed, spared, formTests};
+ghost use Rattle.tables.specs.Parts.{whole, recordTests};
 use crate::packed::count;
-use crate::packed::grant_at;
 use crate::packed::head_of;
+use crate::packed::record_at;
 use crate::packed::spare_at;
 use refusals::Checked;
 use refusals::Refusal;
@@ -23,23 +29,9 @@ fn headed(table: &[u8]) -> bool
     head[2] == 0
 }
 
-// The spare bits of the first n records are 0.
-fn spared(table: &[u8], n: usize) -> bool
-    ensures { λ r. ⌜ r ≡ spared (now (table .entry)) 0 n ⌝ }
-{
-    let mut i = 0;
-    while i < n {
-        if spare_at(table, i) != 0 {
-            return false;
-        }
-        i += 1;
-    }
-    true
-}
-
-// The table has at least 8 bytes; the right edition, kind and spare bits; a count of 1 to 1,024; and its exact length.
-fn formed(table: &[u8]) -> bool
-    ensures { λ r. ⌜ r ≡ formed (now (table .entry)) ⌝ }
+// The table has at least 8 bytes; the right edition, kind and spare bits in its head; a count of 1 to 1,024; and its exact length.
+fn whole(table: &[u8]) -> bool
+    ensures { λ r. ⌜ r ≡ whole (now (table .entry)) ⌝ }
 {
     if table.len() < 8 {
         return false;
@@ -54,48 +46,65 @@ fn formed(table: &[u8]) -> bool
     if 1024 < n {
         return false;
     }
-    if table.len() != 8 + 5 * n {
-        return false;
-    }
-    spared(table, n)
+    table.len() == 8 + 5 * n
 }
 
-// 11: table under 8 bytes, or wrong edition, kind, spare bits, count or length.
-fn test_11(table: &[u8]) -> Checked
-    ensures { λ r. ⌜ r ≡ test11 (now (table .entry)) ⌝ }
+// The spare bits of the first n records are 0, from record `from` on, counted from 0.
+fn spared(table: &[u8], from: usize, n: usize) -> bool
+    ensures { λ r. ⌜ r ≡ spared (now (table .entry)) from (n - from) ⌝ }
 {
-    if formed(table) {
-        Checked::Passed
+    let mut i = from;
+    while i < n {
+        if spare_at(table, i) != 0 {
+            return false;
+        }
+        i += 1;
+    }
+    true
+}
+
+// 12 at record i, or 11 where one of the records behind it, of n, has spare bits.
+fn not_rising(table: &[u8], i: usize, n: usize) -> Checked
+    ensures { λ r. ⌜ r ≡ (unless (spared (now (table .entry)) i (n - i)) TableForm ⟫ Refused (NotRising i)) ⌝ }
+{
+    if spared(table, i, n) {
+        Checked::Refused(Refusal::NotRising(i))
     } else {
         Checked::Refused(Refusal::TableForm)
     }
 }
 
-// 12: starts not strictly rising.
-fn test_12(table: &[u8]) -> Checked
-    ensures { λ r. ⌜ r ≡ test12 (grantsOf (now (table .entry))) ⌝ }
+// What tests 11 and 12 ask of the n records, in one walk: none has spare bits, and none starts before `least`.
+fn record_tests(table: &[u8], n: usize) -> Checked
+    requires { ⌜ length (now table) ≡ place n ⌝ }
+    ensures { λ r. ⌜ r ≡ recordTests (now (table .entry)) n ⌝ }
 {
-    let n = count(table);
-    let mut last = grant_at(table, 0);
-    let mut i = 1;
-    while i < n {
-        let grant = grant_at(table, i);
-        i += 1;
-        if grant.start <= last.start {
-            return Checked::Refused(Refusal::NotRising(i));
+    let mut least = 0;
+    let mut i = 0;
+    loop {
+        let found = record_at(table, i);
+        if !found.whole {
+            return Checked::Passed;
         }
-        last = grant;
+        let values = found.values;
+        if values[3] != 0 {
+            return Checked::Refused(Refusal::TableForm);
+        }
+        let start = values[1];
+        i += 1;
+        if start < least {
+            return not_rising(table, i, n);
+        }
+        least = start + 1;
     }
-    Checked::Passed
 }
 
 // Tests 11 and 12, in their order.
 pub fn form_tests(table: &[u8]) -> Checked
     ensures { λ r. ⌜ r ≡ formTests (now (table .entry)) ⌝ }
 {
-    let form = test_11(table);
-    if let Checked::Refused(refusal) = form {
-        return Checked::Refused(refusal);
+    if !whole(table) {
+        return Checked::Refused(Refusal::TableForm);
     }
-    test_12(table)
+    record_tests(table, count(table))
 }

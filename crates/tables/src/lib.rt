@@ -1,6 +1,6 @@
 // A packed table of grants: its records and its form (tests 11 and 12).
 //
-// Every record is handed to the field reader as a part of the slice. No function asks anything of its caller.
+// Every record is handed to the field reader as a part of the slice. No public function asks anything of its caller.
 mod form;
 mod packed;
 

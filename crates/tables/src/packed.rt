@@ -1,11 +1,12 @@
 // The head and the records of a packed table, read and written.
 ghost use mathlib.Core.Path.{_≡_};
-ghost use Prim.Native.Nat.{_-_, _/_};
-ghost use lib.ListN.{length};
-ghost use Rattle.fields.specs.declared.kind.Kind.the-variants.{TableHead};
-ghost use Rattle.fields.specs.Records.{stored, roomAfter};
-ghost use Rattle.tables.specs.Tables.{headFields, headOf, count, cycleOf, frameOf, valuesAt, grantAt, spareAt, recordStored, recordAfter};
+ghost use Prim.Native.Nat.{_-_, _/_, _≤_};
+ghost use lib.ListN.{length, drop};
+ghost use Rattle.fields.specs.declared.kind.Kind.the-variants.{TableHead, TableRecord};
+ghost use Rattle.fields.specs.Records.{reading, stored, roomAfter};
+ghost use Rattle.tables.specs.Tables.{headFields, headOf, count, cycleOf, frameOf, place, valuesAt, grantAt, spareAt, recordStored, recordAfter};
 use fields::Kind;
+use fields::Reading;
 use fields::Stored;
 
 // A grant of a table: its flow's number, the slot that it starts at and how late that is.
@@ -16,7 +17,7 @@ pub struct Grant {
 }
 
 // The fields of the table's head; zeros where it has none.
-pub fn head_of(table: &[u8]) -> [u16; 6]
+pub(crate) fn head_of(table: &[u8]) -> [u16; 6]
     ensures { λ r. ⌜ r ≡ headOf (now (table .entry)) ⌝ }
 {
     let head = fields::read(Kind::TableHead, table);
@@ -57,16 +58,24 @@ fn whole_records(n: usize) -> usize
     (n - 8) / 5
 }
 
+// What is found at the place of record i, counted from 0.
+pub(crate) fn record_at(table: &[u8], i: usize) -> Reading
+    requires { ⌜ place i ≤ length (now table) ⌝ }
+    ensures { λ r. ⌜ r ≡ reading TableRecord (drop (place i) (now (table .entry))) ⌝ }
+{
+    let start = 8 + 5 * i;
+    let end = table.len();
+    fields::read(Kind::TableRecord, &table[start..end])
+}
+
 // The values of record i, counted from 0; zeros where the table has no such record.
 fn values_at(table: &[u8], i: usize) -> [u16; 6]
     ensures { λ r. ⌜ r ≡ valuesAt (now (table .entry)) i ⌝ }
 {
-    let end = table.len();
-    if whole_records(end) <= i {
+    if whole_records(table.len()) <= i {
         return [0; 6];
     }
-    let start = 8 + 5 * i;
-    let found = fields::read(Kind::TableRecord, &table[start..end]);
+    let found = record_at(table, i);
     found.values
 }
 
@@ -83,7 +92,7 @@ pub fn grant_at(table: &[u8], i: usize) -> Grant
 }
 
 // The spare bits of record i, counted from 0.
-pub fn spare_at(table: &[u8], i: usize) -> u16
+pub(crate) fn spare_at(table: &[u8], i: usize) -> u16
     ensures { λ r. ⌜ r ≡ spareAt (now (table .entry)) i ⌝ }
 {
     let values = values_at(table, i);

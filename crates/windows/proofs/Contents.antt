@@ -2,57 +2,27 @@
 -- Assumes nothing.
 use mathlib.Core.Path.{_≡_, refl, sym, ap, _∙_}
 use mathlib.Core.List.{List, [], _∷_}
-use Prim.Native.Nat.{ℕ, zero, suc, _-_, _*_, _≤_, _<_}
-use native.Mathlib.Nat.{sub-zero, zero-add, not-suc-le-zero, le-of-suc-le-suc}
+use Prim.Native.Nat.{ℕ, suc, _-_, _*_, _≤_, _<_}
+use native.Mathlib.Nat.{sub-zero, zero-add}
 use native.Mathlib.Omega.{arith}
-use lib.ListN.{length, getD, take, drop}
+use lib.ListN.{getD, take, drop}
 use lib.Seq.{drop-drop}
-use borrow.Author.Tests.{le-leb, lt-leb, lt-ltb, le-ltb, ltb-true}
+use borrow.Author.Tests.{le-leb, lt-leb, lt-ltb, le-ltb}
 use denote.Ref.{RefT}
 use Rattle.logic.proofs.Tests.{by-lt}
 use Rattle.refusals.specs.declared.Refusal.{Refusal}
-use Rattle.refusals.specs.declared.Refusal.the-variants.{NotRising}
 use Rattle.refusals.specs.declared.Checked.the-variants.{Passed, Refused}
-use Rattle.refusals.specs.Tests.{against, after}
-use Rattle.refusals.proofs.Lowest.{Pass, lowest-pass}
-use Rattle.refusals.proofs.Walks.{against-after}
 use Rattle.fields.proofs.Runs.{run, drop-run, take-run}
 use Rattle.tables.specs.declared.packed.Grant.{Grant}
 use Rattle.tables.specs.Tables.{place, grantsOf, records}
-use Rattle.tables.specs.Form.{rises, test12}
+use Rattle.tables.specs.Form.{test12}
 use Rattle.windows.specs.Window.{windowTests, before, startingIn, edge, Stretch}
 use Rattle.tables.proofs.Forms.{is-formed}
 use Rattle.tables.proofs.Meaning.{written, length-written, records-run, records-again}
+use Rattle.windows.proofs.Rising.{RisesFrom, Rises, rises-rest, rises-all}
 use Rattle.windows.proofs.Windows.{lawful, edge-passed, edge-refused}
 
--- ---- grants whose starts rise
-
--- each grant starts after the one before it, the first after p
-abbrev RisesFrom : Grant → List Grant → Type 0
-RisesFrom p [] = Unit
-RisesFrom p (g ∷ gs) = (p .start < g .start) × RisesFrom g gs
-
--- each grant starts after the one before it
-abbrev Rises : List Grant → Type 0
-Rises [] = Unit
-Rises (g ∷ gs) = RisesFrom g gs
-
-rises-rest : (p : Grant) (gs : List Grant) → RisesFrom p gs → Rises gs
-rises-rest p [] h = tt
-rises-rest p (g ∷ gs) h = h .1
-
-rises-after : (p : Grant) (gs : List Grant) → Pass (against (after rises) (p ∷ []) gs) → RisesFrom p gs
-unfolding rises
-rises-after p [] h = tt
-rises-after p (g ∷ gs) h =
-    let both : Pass (rises p g ∷ against (after rises) (g ∷ []) gs) = rw (against-after rises p [] g gs) at h in
-    (ltb-true (p .start) (g .start) (both .0), rises-after g gs (both .1))
-
--- test 12 says so
-rises-all : (gs : List Grant) → test12 gs ≡ Passed → Rises gs
-unfolding test12 against
-rises-all [] e = tt
-rises-all (g ∷ gs) e = rises-after g gs (lowest-pass NotRising 1 (against (after rises) [] (g ∷ gs)) e .1)
+-- ---- the grants of the stretch
 
 module _ (a b : ℕ) where
   none-before : (p : Grant) (gs : List Grant) → a ≤ p .start → RisesFrom p gs → before a gs ≡ 0
@@ -108,28 +78,6 @@ module _ (a b : ℕ) where
 
   pub window-grants : (gs : List Grant) → test12 gs ≡ Passed → take (before b gs - before a gs) (drop (before a gs) gs) ≡ startingIn a b gs
   window-grants gs e = cut gs (rises-all gs e)
-
--- ---- where an end of the stretch stands
-
-module _ (a : ℕ) (none : Grant) where
-  -- the grants before it start below a
-  pub below-before : (gs : List Grant) (j : ℕ) → j < before a gs → getD gs j none .start < a
-  unfolding before
-  below-before [] j h = absurd (omega arith)
-  below-before (g ∷ gs) zero h = by-lt (g .start) a (λ l. l) (λ l. absurd (not-suc-le-zero (rw (le-ltb (g .start) a l) at h)))
-  below-before (g ∷ gs) (suc j) h =
-      by-lt (g .start) a
-      (λ l. below-before gs j (le-of-suc-le-suc (rw (lt-ltb (g .start) a l) at h)))
-      (λ l. absurd (not-suc-le-zero (rw (le-ltb (g .start) a l) at h)))
-
-  -- the grant behind it, where there is one, starts at a or later
-  pub first-from : (gs : List Grant) → before a gs < length gs → a ≤ getD gs (before a gs) none .start
-  unfolding before
-  first-from [] h = absurd (omega arith)
-  first-from (g ∷ gs) h =
-      by-lt (g .start) a
-      (λ l. rw (lt-ltb (g .start) a l) (first-from gs (le-of-suc-le-suc (rw (lt-ltb (g .start) a l) at h))))
-      (λ l. rw (le-ltb (g .start) a l) l)
 
 -- ---- the stretch
 

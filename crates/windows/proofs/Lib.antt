@@ -1,4 +1,4 @@
-pub mod Walk
+pub mod Rising
 pub mod Windows
 pub mod Contents
 pub mod Cases

@@ -85,7 +85,7 @@ pub lawful-edges : (t : List ℕ) (a b : ℕ) → Lawful t a b
     → (before a (grantsOf t) ≤ before b (grantsOf t)) × (before b (grantsOf t) ≤ 1024) × (place (before b (grantsOf t)) ≤ length t)
 lawful-edges t a b w =
     let le = before-le b (grantsOf t) in
-    (before-mono a b (grantsOf t) (w .ordered), omega (arith, length-grants t, w .form .count-le), omega (arith, length-grants t, w .form .exact))
+    (before-mono a b (grantsOf t) (w .ordered), omega (arith, length-grants t, w .form .all .count-le), omega (arith, length-grants t, w .form .all .exact))
 
 module _ (k : Checked) (t : List ℕ) (a : ℕ) where
   pub edge-passed : (i : ℕ) → k ≡ Passed → i ≡ before a (grantsOf t) → edge k t a ≡ place i

@@ -1,6 +1,8 @@
 // The question for a window of a table: tests 11, 12 and 19, and the stretch of records.
 ghost use mathlib.Core.Path.{_≡_};
+ghost use Rattle.refusals.specs.declared.Checked.the-variants.{Passed};
 ghost use Rattle.tables.specs.Tables.{grantsOf};
+ghost use Rattle.tables.specs.Form.{test12};
 ghost use Rattle.windows.specs.Window.{test19, windowTests, before, edge, edgesOf, Stretch};
 use refusals::Checked;
 use refusals::Refusal;
@@ -33,20 +35,23 @@ pub fn window_tests(table: &[u8], a: u64, b: u64) -> Checked
     test_19(table, a, b)
 }
 
-// How many grants stand before the first that starts at a or later.
+// How many grants stand before the first that starts at a or later, found by halving, since the starts rise.
 fn grants_before(table: &[u8], a: u64) -> usize
+    requires { ⌜ test12 (grantsOf (now table)) ≡ Passed ⌝ }
     ensures { λ r. ⌜ r ≡ before a (grantsOf (now (table .entry))) ⌝ }
 {
-    let n = count(table);
-    let mut i = 0;
-    while i < n {
-        let grant = grant_at(table, i);
-        if a <= grant.start as u64 {
-            return i;
+    let mut low = 0;
+    let mut high = count(table);
+    while low < high {
+        let middle = low + (high - low) / 2;
+        let grant = grant_at(table, middle);
+        if (grant.start as u64) < a {
+            low = middle + 1;
+        } else {
+            high = middle;
         }
-        i += 1;
     }
-    i
+    low
 }
 
 // Where the records with a ≤ start < b stand in the table, from the first byte up to the end, or the window's refusal.

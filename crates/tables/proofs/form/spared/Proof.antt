@@ -1,8 +1,7 @@
 -- `tables::form::spared` meets its contract.
 -- Assumes nothing.
-use mathlib.Core.Path.{_≡_, sym, _∙_}
+use mathlib.Core.Path.{_≡_, refl, sym, _∙_}
 use Prim.Native.Nat.{_-_}
-use native.Mathlib.Nat.{sub-zero}
 use native.Mathlib.Omega.{arith}
 use borrow.Author.Needs.{needs}
 use Rattle.tables.specs.Form.{spared}
@@ -11,13 +10,13 @@ use Rattle.tables.proofs.form.spared.Statement.{statement}
 use Rattle.tables.proofs.form.spared.Tie as tie
 
 abbrev Inv-loop : tie.InvT-loop
-Inv-loop table n i₀ i = spared table i (n - i) ≡ spared table 0 n
+Inv-loop table from n i₀ i = spared table i (n - i) ≡ spared table from (n - from)
 
 abbrev μ-loop : tie.MeasureT-loop
-μ-loop table n i₀ i = n - i
+μ-loop table from n i₀ i = n - i
 
 loop-holds : tie.Need-loop-holds Inv-loop μ-loop
-loop-holds c = simp sub-zero
+loop-holds c = refl
 
 spare-at-requires : tie.Need-spare-at-requires Inv-loop μ-loop
 spare-at-requires c κs = search needs

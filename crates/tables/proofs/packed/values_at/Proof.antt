@@ -1,10 +1,11 @@
 -- `tables::packed::values_at` meets its contract.
 -- Assumes nothing.
-use mathlib.Core.Path.{ap, _∙_}
+use mathlib.Core.Path.{ap}
 use borrow.Author.Needs.{needs}
 use Rattle.fields.specs.declared.record.Reading.{Reading}
 use Rattle.fields.specs.Records.{reading}
-use Rattle.tables.proofs.Records.{values-beyond, values-part}
+use Rattle.tables.specs.Tables.{valuesAt}
+use Rattle.tables.proofs.Records.{values-beyond}
 use Rattle.tables.proofs.packed.values_at.Statement.{statement}
 use Rattle.tables.proofs.packed.values_at.Tie as tie
 
@@ -17,40 +18,12 @@ returns c =
     let w = c .before .whole-records in
     values-beyond (a .table .now) (a .i) (w .result) (w .ensures) (c .if1 .taken)
 
-mul-start : tie.Need-mul-start
-mul-start c = search needs
-
-add-start : tie.Need-add-start
-add-start c = search needs
-
-sub-read : tie.Need-sub-read
-sub-read c = search needs
-
-part-read-start : tie.Need-part-read-start
-part-read-start c = search needs
-
-part-read-end : tie.Need-part-read-end
-part-read-end c = search needs
-
-read-requires : tie.Need-read-requires
-read-requires c κs = search needs
+record-at-requires : tie.Need-record-at-requires
+record-at-requires c κs = search needs
 
 returns-2 : tie.Need-returns-2
-unfolding reading
-returns-2 c =
-    let a = c .before .before .before .before .before .before .args in
-    ap (λ (found : Reading). found .values) (c .before .read .ensures) ∙ values-part (a .table .now) (a .i)
+unfolding reading valuesAt
+returns-2 c = ap (λ (found : Reading). found .values) (c .before .record-at .ensures)
 
 pub values-at-spec : {M : Type 1} → statement M
-values-at-spec =
-    tie.close
-    (tie.spec
-    whole-records-requires
-    returns
-    mul-start
-    add-start
-    sub-read
-    part-read-start
-    part-read-end
-    read-requires
-    returns-2)
+values-at-spec = tie.close (tie.spec whole-records-requires returns record-at-requires returns-2)

@@ -7,6 +7,7 @@ use lib.ListN.{length}
 use borrow.Author.Needs.{needs}
 use Rattle.refusals.specs.declared.Checked.the-variants.{Passed}
 use Rattle.tables.specs.Tables.{place, grantsOf}
+use Rattle.tables.specs.Form.{test12}
 use Rattle.windows.specs.Window.{windowTests, before}
 use Rattle.windows.proofs.Windows.{lawful, lawful-edges, edges-refused, edges-passed}
 use Rattle.windows.proofs.stretch.edges_of.Statement.{statement}
@@ -32,11 +33,14 @@ edges c =
     let a = c .before .before .before .before .args in
     lawful-edges (a .table .now) (a .a) (a .b) (lawful (a .table .now) (a .a) (a .b) (passed c))
 
+rising : (c : tie.After-enum-told) → test12 (grantsOf (c .before .before .before .before .args .table .now)) ≡ Passed
+rising c = let a = c .before .before .before .before .args in lawful (a .table .now) (a .a) (a .b) (passed c) .rising
+
 enum-told : tie.Need-enum-told
 enum-told c = search needs
 
 grants-before-requires : tie.Need-grants-before-requires
-grants-before-requires c κs = search needs
+grants-before-requires c κs = rising c
 
 mul-first : tie.Need-mul-first
 mul-first c = omega (arith, edges (c .before), c .grants-before .ensures)
@@ -45,7 +49,7 @@ add-first : tie.Need-add-first
 add-first c = omega (arith, edges (c .before), c .grants-before .ensures)
 
 grants-before-requires-2 : tie.Need-grants-before-requires-2
-grants-before-requires-2 c κs = search needs
+grants-before-requires-2 c κs = rising (c .before)
 
 mul-end : tie.Need-mul-end
 mul-end c = omega (arith, edges (c .before .before), c .grants-before2 .ensures)

@@ -1,27 +1,39 @@
 -- `windows::stretch::grants_before` meets its contract.
 -- Assumes nothing.
-use mathlib.Core.Path.{_≡_, sym, ap, _∙_}
-use Prim.Native.Nat.{ℕ, _+_, _-_}
-use native.Mathlib.Nat.{sub-zero, zero-add}
+use mathlib.Core.Path.{_≡_, ap}
+use Prim.Native.Nat.{ℕ, _+_, _-_, _/_, _≤_, zero-le}
 use native.Mathlib.Omega.{arith}
+use lib.ListN.{getD}
 use borrow.Author.Needs.{needs}
-use Rattle.tables.specs.Tables.{grantsFrom, grantsOf}
+use Rattle.tables.specs.declared.packed.Grant.{Grant}
+use Rattle.tables.specs.Tables.{count, grantsOf}
+use Rattle.tables.proofs.Records.{count-small, length-grants, grant-is}
 use Rattle.windows.specs.Window.{before}
-use Rattle.windows.proofs.Walk.{before-next, before-stop, before-end}
+use Rattle.windows.proofs.Rising.{rises-all, before-past, before-upto}
+use Rattle.windows.proofs.Windows.{before-le}
 use Rattle.windows.proofs.stretch.grants_before.Statement.{statement}
 use Rattle.windows.proofs.stretch.grants_before.Tie as tie
 
 abbrev Inv-loop : tie.InvT-loop
-Inv-loop table a n i₀ i = i + before a (grantsFrom table i (n - i)) ≡ before a (grantsFrom table 0 n)
+Inv-loop table a low₀ high₀ low high = (low ≤ before a (grantsOf table)) × (before a (grantsOf table) ≤ high) × (high ≤ count table)
 
 abbrev μ-loop : tie.MeasureT-loop
-μ-loop table a n i₀ i = n - i
+μ-loop table a low₀ high₀ low high = high - low
 
 count-requires : tie.Need-count-requires Inv-loop μ-loop
 count-requires c κs = search needs
 
 loop-holds : tie.Need-loop-holds Inv-loop μ-loop
-loop-holds c = simp (sub-zero, zero-add)
+loop-holds c =
+    let a = c .before .before .args in
+    let gs = grantsOf (a .table .now) in
+    (zero-le, omega (arith, before-le (a .a) gs, length-grants (a .table .now)), omega arith)
+
+sub-middle : tie.Need-sub-middle Inv-loop μ-loop
+sub-middle c = search needs
+
+add-middle : tie.Need-add-middle Inv-loop μ-loop
+add-middle c = omega (arith, count-small (c .before .before .before .before .args .table .now))
 
 grant-at-requires : tie.Need-grant-at-requires Inv-loop μ-loop
 grant-at-requires c κs = search needs
@@ -29,38 +41,49 @@ grant-at-requires c κs = search needs
 cast-if1 : tie.Need-cast-if1 Inv-loop μ-loop
 cast-if1 c = search needs
 
-returns : tie.Need-returns Inv-loop μ-loop
-unfolding grantsOf
-returns c =
-    let b = c .before .before in
-    let v = b .before .before .loop in
-    let a = b .before .before .before .before .before .args in
-    let n = b .before .before .before .count in
-    sym (before-stop (a .table .now) (v .i) (n .result) (omega arith) (a .a) (b .grant-at .result) (b .grant-at .ensures) (omega arith)) ∙ v .inv
-    ∙ ap (λ (k : ℕ). before (a .a) (grantsFrom (a .table .now) 0 k)) (n .ensures)
+-- the middle record
+abbrev middle : ℕ → ℕ → ℕ
+middle low high = low + (high - low) / 2
 
-add-i : tie.Need-add-i Inv-loop μ-loop
-add-i c = search needs
+-- what is read there is its start
+read : (c : tie.After-struct-known Inv-loop μ-loop) → let b = c .before in let v = b .before .before .loop in
+    b .grant-at .result .start ≡ getD (grantsOf (b .before .before .before .before .before .args .table .now)) (middle (v .low) (v .high)) (b .grant-at .result) .start
+read c =
+    let b = c .before in
+    let v = b .before .before .loop in
+    let t = b .before .before .before .before .before .args .table .now in
+    ap (λ (g : Grant). g .start) (grant-is t (b .grant-at .result) (middle (v .low) (v .high)) (b .grant-at .result) (omega arith) (b .grant-at .ensures))
+
+add-low : tie.Need-add-low Inv-loop μ-loop
+add-low c = omega (arith, count-small (c .before .before .before .before .before .before .before .args .table .now))
 
 loop-less : tie.Need-loop-less Inv-loop μ-loop
-loop-less c = search needs
+loop-less c = omega arith
 
 loop-again : tie.Need-loop-again Inv-loop μ-loop
 loop-again c =
     let b = c .before .before in
     let v = b .before .before .loop in
-    let a = b .before .before .before .before .before .args in
-    let n = b .before .before .before .count in
-    sym (before-next (a .table .now) (v .i) (n .result) (omega arith) (a .a) (b .grant-at .result) (b .grant-at .ensures) (omega arith)) ∙ v .inv
+    let s = b .before .before .before .before .before in
+    let t = s .args .table .now in
+    let at = read (c .before) in
+    let past = before-past (b .grant-at .result) (s .args .a) (grantsOf t) (rises-all (grantsOf t) (s .pre)) (middle (v .low) (v .high)) (omega (arith, length-grants t)) (omega arith) in
+    (omega arith, v .inv .1, v .inv .2)
 
-returns-2 : tie.Need-returns-2 Inv-loop μ-loop
-unfolding grantsOf
-returns-2 c =
-    let v = c .before .loop in
-    let n = c .before .before .count in
-    let a = c .before .before .before .before .args in
-    sym (before-end (a .table .now) (v .i) (n .result) (omega arith) (a .a)) ∙ v .inv
-    ∙ ap (λ (k : ℕ). before (a .a) (grantsFrom (a .table .now) 0 k)) (n .ensures)
+loop-less-2 : tie.Need-loop-less-2 Inv-loop μ-loop
+loop-less-2 c = omega arith
+
+loop-again-2 : tie.Need-loop-again-2 Inv-loop μ-loop
+loop-again-2 c =
+    let b = c .before .before in
+    let v = b .before .before .loop in
+    let s = b .before .before .before .before .before in
+    let at = read (c .before) in
+    let upto = before-upto (b .grant-at .result) (s .args .a) (grantsOf (s .args .table .now)) (middle (v .low) (v .high)) (omega arith) in
+    (v .inv .0, upto, omega arith)
+
+returns : tie.Need-returns Inv-loop μ-loop
+returns c = let v = c .before .loop in omega arith
 
 pub grants-before-spec : {M : Type 1} → statement M
 grants-before-spec =
@@ -70,10 +93,13 @@ grants-before-spec =
     μ-loop
     count-requires
     loop-holds
+    sub-middle
+    add-middle
     grant-at-requires
     cast-if1
-    returns
-    add-i
+    add-low
     loop-less
     loop-again
-    returns-2)
+    loop-less-2
+    loop-again-2
+    returns)
