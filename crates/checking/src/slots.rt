@@ -19,7 +19,7 @@ fn end_of(list: &[u8], records: &[u8], g: Grant) -> u64
     ensures { λ r. ⌜ r ≡ g .start + slots (flowsOf (now (list .entry))) g ⌝ }
 {
     let f = find(list, records, g.flow).flow;
-    wide(g.start) + wide(lists::occupies(f))
+    wide(g.start) + wide(facts::occupies(f))
 }
 
 // The grant before g, record i of the table, ends where g starts, or earlier.

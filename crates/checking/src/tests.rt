@@ -45,7 +45,7 @@ fn tests_14_to_18(list: &[u8], records: &[u8], cycle: u16, table: &[u8]) -> Chec
 pub fn law_tests(list: &[u8], table: &[u8]) -> Checked
     ensures { λ r. ⌜ r ≡ lawTests (flowsOf (now (list .entry))) (now (table .entry)) ⌝ }
 {
-    let facts = lists::facts_of(list);
+    let facts = facts::facts_of(list);
     let cycle = facts.cycle;
     let whole = test_13(cycle, facts.frame, table);
     if let Checked::Refused(r) = whole {

@@ -60,6 +60,12 @@ cycle-le [] f m = absurd (List·Memᴰ·not-nil m)
 cycle-le (g ∷ fs) f m =
     by-mem m (λ e. omega (arith, ap (λ (x : Flow). x .interval) e)) (λ k. omega (arith, cycle-le fs f k))
 
+-- the smallest of i and the intervals is at most i
+pub least-upto : (i : ℕ) (fs : List Flow) → least i fs ≤ i
+unfolding least
+least-upto i [] = omega arith
+least-upto i (f ∷ fs) = omega (arith, least-upto i fs)
+
 cycle-mem : (f : Flow) (fs : List Flow) → (g : Flow) × Mem g (f ∷ fs) × (g .interval ≡ cycle (f ∷ fs))
 unfolding cycle
 cycle-mem f [] = (f, List·Memᴰ·head refl, omega arith)

@@ -1,5 +1,4 @@
 pub mod Records
-pub mod Turns
 pub mod Verdicts
 pub mod Cycle
 pub mod Accepted

@@ -2,4 +2,3 @@ pub mod Lists
 pub mod Facts
 pub mod Tests
 pub mod Accepted
-pub mod Parts

@@ -1,4 +1,4 @@
-// A packed list of flows: its records, and its frame, cycle, grants and load. Tests 1 to 7 are defined here; `accepting` is their
+// A packed list of flows: its records. What they say together and tests 1 to 7 are defined here; `facts` and `accepting` are their
 // code.
 //
 // Every record is handed to the field reader as a part of the slice. No public function asks anything of its caller.
@@ -6,8 +6,6 @@ mod facts;
 mod packed;
 
 pub use facts::Facts;
-pub use facts::facts_of;
-pub use facts::occupies;
 pub use packed::count;
 pub use packed::flow_at;
 pub use packed::write_head;

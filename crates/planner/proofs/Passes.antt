@@ -21,8 +21,7 @@ use Rattle.lists.specs.Facts.{cycle, frame, grantsOf as grantsEach, grants}
 use Rattle.lists.specs.Tests.{tests1to7}
 use Rattle.lists.specs.Accepted.{Accepted}
 use Rattle.lists.proofs.Accepted.{accepted}
-use Rattle.lists.proofs.Cycle.{interval-pos, cycle-le, divides-cycle}
-use Rattle.lists.proofs.Turns.{least-le}
+use Rattle.lists.proofs.Cycle.{interval-pos, cycle-le, divides-cycle, least-upto}
 use Rattle.tables.specs.declared.packed.Grant.{Grant}
 use Rattle.tables.specs.Tables.{place, grantsOf, tableOf}
 use Rattle.tables.specs.Form.{test11, formTests}
@@ -68,7 +67,7 @@ module _ (fs : List Flow) (ok : Accepted fs) (gs : List Grant) (e : planned fs �
             all-imp (λ g. (known fs (g .flow) ≡ true) × (g .flow < 1024) × (g .start < cycle fs) × (g .late < 4096)) Fits gs
             (λ g h. record { flow-lt = h .1; start-lt = omega (arith, cycle-fits fs ok); late-lt = h .3 }) (planned-fits fs ok gs e);
         cycle-lt = omega (arith, cycle-fits fs ok);
-        frame-lt = omega (arith, cycle-fits fs ok, least-le (cycle fs) fs);
+        frame-lt = omega (arith, cycle-fits fs ok, least-upto (cycle fs) fs);
       }
 
 -- DEMAND 2, of the planner: the table of every accepted plan passes the check

@@ -26,7 +26,7 @@ pub(crate) fn place(
     if own != interval {
         return true;
     }
-    let size = lists::occupies(f);
+    let size = facts::occupies(f);
     let found = first_lawful(contents, limits, frame, size);
     let Found::At(k) = found else {
         return false;

@@ -65,7 +65,7 @@ pub fn plan(list: &[u8], room: &mut [u8]) -> Written
     if let Checked::Refused(r) = tests {
         return Written::Refused(r);
     }
-    let facts = lists::facts_of(list);
+    let facts = facts::facts_of(list);
     let cycle = facts.cycle as u64;
     let grants = facts.grants as usize;
     if cycle < facts.load {

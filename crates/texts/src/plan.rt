@@ -59,7 +59,7 @@ pub fn plan_text(list: &[u8], table: &[u8], room: &mut [u8]) -> Written
     ensures { λ r. ⌜ r ≡ answer Passed (planText (now (list .entry)) (now (table .entry))) (length (now (room .entry))) ⌝ }
     ensures { λ _. ⌜ now (room .exit) ≡ written Passed (planText (now (list .entry)) (now (table .entry))) (now (room .entry)) ⌝ }
 {
-    let facts = lists::facts_of(list);
+    let facts = facts::facts_of(list);
     let cycle = tables::cycle(table);
     let frame = tables::frame(table);
     let n = tables::count(table);

@@ -1,14 +1,14 @@
--- `lists::facts::span_of` meets its contract.
+-- `facts::span_of` meets its contract.
 -- Assumes nothing.
 use mathlib.Core.Path.{ap₂, _∙_}
 use Prim.Native.Nat.{ℕ, _-_, _≤_}
 use native.Mathlib.Omega.{arith}
 use borrow.Author.Needs.{needs}
 use Rattle.lists.specs.Lists.{flowsOf}
 use Rattle.lists.proofs.Records.{length-flows, flow-is}
-use Rattle.lists.proofs.Turns.{SpanAt, span-start, span-next, span-end}
-use Rattle.lists.proofs.facts.span_of.Statement.{statement}
-use Rattle.lists.proofs.facts.span_of.Tie as tie
+use Rattle.facts.proofs.Turns.{SpanAt, span-start, span-next, span-end}
+use Rattle.facts.proofs.span_of.Statement.{statement}
+use Rattle.facts.proofs.span_of.Tie as tie
 
 abbrev Inv-loop : tie.InvT-loop
 Inv-loop list n cycle₀ frame₀ i₀ cycle frame i = (i ≤ n) × (cycle ≤ 65535) × SpanAt (flowsOf list) i cycle frame

@@ -1,13 +1,13 @@
--- `lists::facts::facts_of` meets its contract.
+-- `facts::facts_of` meets its contract.
 -- Assumes nothing.
 use mathlib.Core.Path.{_≡_, ap, _∙_}
 use borrow.Author.Needs.{needs}
-use Rattle.lists.specs.declared.facts.Span.{Span}
+use Rattle.facts.specs.declared.Span.{Span}
 use Rattle.lists.specs.Lists.{flowsOf}
 use Rattle.lists.specs.Facts.{cycle, grants, load, factsOf}
-use Rattle.lists.specs.Parts.{totalsOf}
-use Rattle.lists.proofs.facts.facts_of.Statement.{statement}
-use Rattle.lists.proofs.facts.facts_of.Tie as tie
+use Rattle.facts.specs.Parts.{totalsOf}
+use Rattle.facts.proofs.facts_of.Statement.{statement}
+use Rattle.facts.proofs.facts_of.Tie as tie
 
 span-of-requires : tie.Need-span-of-requires
 span-of-requires c κs = search needs

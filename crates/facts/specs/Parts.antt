@@ -3,9 +3,9 @@ use mathlib.Core.List.{List}
 use Prim.Native.Nat.{ℕ, _*_}
 use Rattle.logic.specs.Lists.{sum}
 use Rattle.flows.specs.declared.flow.Flow.{Flow}
-use Rattle.lists.specs.declared.facts.Span.{Span}
-use Rattle.lists.specs.declared.facts.Totals.{Totals}
+use Rattle.facts.specs.declared.Span.{Span}
+use Rattle.facts.specs.declared.Totals.{Totals}
 use Rattle.lists.specs.Facts.{occupies, cycle, frame, grantsOf}
 
 -- cycle and frame
 abbrev pub spanOf : List Flow → Span

@@ -1,4 +1,4 @@
--- `lists::facts::totals_of` meets its contract.
+-- `facts::totals_of` meets its contract.
 -- Assumes nothing.
 use mathlib.Core.Path.{_≡_, ap, ap₂, _∙_}
 use Prim.Native.Nat.{ℕ, _+_, _*_, _-_, _≤_, _<_}
@@ -7,12 +7,12 @@ use lib.ListN.{length, getD}
 use borrow.Author.Needs.{needs}
 use Rattle.flows.specs.declared.flow.Flow.{Flow}
 use Rattle.flows.specs.Flows.{noFlow}
 use Rattle.lists.specs.Lists.{flowsOf}
 use Rattle.lists.specs.Facts.{occupies, grantsOf}
 use Rattle.lists.proofs.Records.{length-flows, flow-is}
-use Rattle.lists.proofs.Turns.{SumAt, sum-start, sum-next, sum-end, product-le}
-use Rattle.lists.proofs.facts.totals_of.Statement.{statement}
-use Rattle.lists.proofs.facts.totals_of.Tie as tie
+use Rattle.facts.proofs.Turns.{SumAt, sum-start, sum-next, sum-end, product-le}
+use Rattle.facts.proofs.totals_of.Statement.{statement}
+use Rattle.facts.proofs.totals_of.Tie as tie
 
 abbrev Inv-loop : tie.InvT-loop
 Inv-loop list cycle n grants₀ load₀ i₀ grants load i =

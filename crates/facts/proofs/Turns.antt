@@ -10,13 +10,8 @@ use lib.Seq.{drop-cons}
 use Rattle.logic.specs.Lists.{sum}
 use Rattle.flows.specs.declared.flow.Flow.{Flow}
 use Rattle.flows.specs.Flows.{noFlow}
 use Rattle.lists.specs.Facts.{cycle, least, frame}
-
--- the smallest of i and the intervals is at most i
-pub least-le : (i : ℕ) (fs : List Flow) → least i fs ≤ i
-unfolding least
-least-le i [] = omega arith
-least-le i (f ∷ fs) = omega (arith, least-le i fs)
+use Rattle.lists.proofs.Cycle.{least-upto}
 
 -- ---- cycle and frame: the largest is m so far and the smallest k
 
@@ -46,7 +41,7 @@ span-end fs i m k h b s =
     let none : drop i fs ≡ [] = drop-of-length-le fs h in
     let c : max m 0 ≡ cycle fs = rw none at (s .0) in
     let l : min k (cycle fs) ≡ min 65535 (least (cycle fs) fs) = rw none at (s .1) in
-    (omega arith, omega (arith, least-le (cycle fs) fs))
+    (omega arith, omega (arith, least-upto (cycle fs) fs))
 
 -- ---- sums: s so far, of numbers that are at most b each
 
