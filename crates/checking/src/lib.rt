@@ -4,9 +4,8 @@
 mod belongs;
 mod cells;
 mod counts;
+mod faults;
 mod flows;
-mod grants;
-mod slots;
 mod tests;
 mod timing;
 

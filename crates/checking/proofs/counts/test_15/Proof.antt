@@ -14,6 +14,7 @@ use Rattle.lists.specs.Lists.{flowsOf}
 use Rattle.lists.proofs.Records.{length-flows, flow-is}
 use Rattle.tables.specs.Tables.{grantsOf}
 use Rattle.law.specs.Check.{counted, test15}
+use Rattle.checking.proofs.Widths.{number-small}
 use Rattle.checking.proofs.Verdicts.{counted-is}
 use Rattle.checking.proofs.counts.test_15.Statement.{statement}
 use Rattle.checking.proofs.counts.test_15.Tie as tie
@@ -47,7 +48,8 @@ grants-of-requires c κs =
     let n = c .before .before .before .before in
     let k = n .before .before .before .count-grants in
     let p = start n .pre .0 in
-    ((p .0, omega (arith, k .kept .1 .1 .1 .0, p .1)), k .ensures)
+    let f = c .before .flow-at in
+    ((p .0, omega (arith, k .kept .1 .1 .0, p .1), rw (f .ensures) (number-small (start n .args .list .now) (c .before .before .before .loop .i))), k .ensures)
 
 times-requires : tie.Need-times-requires Inv-loop μ-loop
 times-requires c κs = search needs
