@@ -1,5 +1,6 @@
 -- What tests 13 and 15 answer, as the code asks them. Assumes nothing.
-use mathlib.Core.Path.{_≡_}
+use mathlib.Core.Path.{_≡_, sym, _∙_}
+use mathlib.Core.Bool.{Bool, true, false}
 use mathlib.Core.List.{List}
 use Prim.Native.Nat.{ℕ, _/_}
 use lib.Dec.{eqb}
@@ -8,6 +9,8 @@ use borrow.Author.Tests.{eq-eqb, ne-eqb}
 use Rattle.fields.specs.declared.flow.Flow.{Flow}
 use Rattle.refusals.specs.declared.Refusal.the-variants.{OtherCycle}
 use Rattle.refusals.specs.declared.Checked.the-variants.{Passed, Refused}
+use Rattle.refusals.specs.Tests.{unless}
+use Rattle.refusals.proofs.Chains.{unless-yes, unless-no}
 use Rattle.lists.specs.declared.facts.Facts.{Facts}
 use Rattle.lists.specs.Facts.{cycle, frame, grantsOf, factsOf}
 use Rattle.tables.specs.declared.packed.Grant.{Grant}
@@ -15,21 +18,25 @@ use Rattle.tables.specs.Tables.{cycleOf, frameOf}
 use Rattle.law.specs.Check.{to, test13, counted}
 use Rattle.checking.specs.Parts.{belongs}
 
--- the table has the list's cycle and frame
+-- the table has the cycle, or not
 module _ (c φ : ℕ) (t : List ℕ) where
-  pub other-cycle : (cycleOf t ≡ c → ⊥) → Refused OtherCycle ≡ belongs c φ t
+  pub other-cycle : (cycleOf t ≡ c → ⊥) → false ≡ belongs c φ t
   other-cycle n = rw (ne-eqb (cycleOf t) c n)
 
-  module _ (e : cycleOf t ≡ c) where
-    pub other-frame : (frameOf t ≡ φ → ⊥) → Refused OtherCycle ≡ belongs c φ t
-    other-frame n = rw (eq-eqb (cycleOf t) c e, ne-eqb (frameOf t) φ n)
+  pub own-cycle : cycleOf t ≡ c → eqb (frameOf t) φ ≡ belongs c φ t
+  own-cycle e = rw (eq-eqb (cycleOf t) c e)
 
-    pub own : frameOf t ≡ φ → Passed ≡ belongs c φ t
-    own q = rw (eq-eqb (cycleOf t) c e, eq-eqb (frameOf t) φ q)
+-- test 13 by the list's facts
+module _ (fs : List Flow) (t : List ℕ) (facts : Facts) (e : facts ≡ factsOf fs) (b : Bool) (w : b ≡ belongs (facts .cycle) (facts .frame) t) where
+  said : unless b OtherCycle ≡ test13 fs t
+  unfolding test13 factsOf
+  said = rw (w, e)
 
-pub belongs-is : (fs : List Flow) (t : List ℕ) (facts : Facts) → facts ≡ factsOf fs → belongs (facts .cycle) (facts .frame) t ≡ test13 fs t
-unfolding test13 factsOf
-belongs-is fs t facts e = rw e
+  pub belongs-not : b ≡ false → test13 fs t ≡ Refused OtherCycle
+  belongs-not n = sym said ∙ unless-no b OtherCycle n
+
+  pub belongs-is : b ≡ true → test13 fs t ≡ Passed
+  belongs-is y = sym said ∙ unless-yes b OtherCycle y
 
 -- test 15 of a flow that has k grants, where it should have n
 pub counted-is : (fs : List Flow) (gs : List Grant) (f : Flow) (k c n : ℕ) → k ≡ length (to (f .number) gs) → c ≡ cycle fs → n ≡ c / f .interval

@@ -10,7 +10,7 @@ use lib.ListN.{length, getD}
 use borrow.Author.Tests.{le-leb}
 use Rattle.fields.specs.declared.flow.Flow.{Flow}
 use Rattle.refusals.specs.declared.Refusal.{Refusal}
-use Rattle.refusals.specs.declared.Refusal.the-variants.{UnknownFlow, Timing, Overlap, PastCycle}
+use Rattle.refusals.specs.declared.Refusal.the-variants.{UnknownFlow, GrantCount, Timing, Overlap, PastCycle}
 use Rattle.refusals.specs.declared.Checked.{Checked}
 use Rattle.refusals.specs.declared.Checked.the-variants.{Passed, Refused}
 use Rattle.refusals.specs.Tests.{_⟫_, after}
@@ -18,10 +18,10 @@ use Rattle.refusals.proofs.Chains.{first-refuses, chain-passed}
 use Rattle.refusals.proofs.Walks.{before, walk, walk-alone, walk-next, walk-here, walk-end}
 use Rattle.lists.specs.Facts.{cycle, occupies}
 use Rattle.tables.specs.declared.packed.Grant.{Grant}
-use Rattle.law.specs.Check.{look, slots, listed, timely, clears, ends, test14, test16, test17, test18}
+use Rattle.law.specs.Check.{look, slots, listed, timely, clears, ends, test14, test15, test16, test17, test18, tests14to18}
 use Rattle.law.specs.Law.{blank}
 use Rattle.checking.specs.declared.faults.Seen.{Seen}
-use Rattle.checking.specs.Parts.{noted, note, next, answers}
+use Rattle.checking.specs.Parts.{noted, note, next, answers, testsWith}
 
 -- ---- a place that is noted
 
@@ -93,7 +93,7 @@ module _ (fs : List Flow) (gs : List Grant) where
 
   module _ (i : ℕ) (s : Seen) (a : Walked fs gs i s) where
     -- the table's flows are all listed
-    pub walked-end : length gs ≤ i → (counts : Checked) → answers s counts ≡ (test14 fs gs ⟫ counts ⟫ test16 fs gs ⟫ test17 fs gs ⟫ test18 fs gs)
+    pub walked-end : length gs ≤ i → (counts : Checked) → answers s counts ≡ testsWith fs gs counts
     walked-end h counts =
         let u = noted-none UnknownFlow (s .unknown) (a .unknown) ∙ walk-end UnknownFlow (λ _ g. listed fs g) gs blank i h ∙ a .listed in
         let t = sym (says-end Timing (timely 0 fs) gs i (s .timing) h) ∙ a .timing in
@@ -104,7 +104,7 @@ module _ (fs : List Flow) (gs : List Grant) where
     module _ (h : i < length gs) (g : Grant) (e : g ≡ getD gs i blank) where
       -- the flow of record i is not in the list
       pub walked-unknown : listed fs g ≡ false → (z : Seen) → z .unknown ≡ i + 1
-          → (counts : Checked) → answers z counts ≡ (test14 fs gs ⟫ counts ⟫ test16 fs gs ⟫ test17 fs gs ⟫ test18 fs gs)
+          → (counts : Checked) → answers z counts ≡ testsWith fs gs counts
       walked-unknown n z q counts =
           let here = walk-here UnknownFlow (λ _ x. listed fs x) gs blank i h (listed fs g) (ap (listed fs) e) n ∙ a .listed in
           let place : noted UnknownFlow (z .unknown) ≡ Refused (UnknownFlow (i + 1)) = noted-some UnknownFlow (z .unknown) (λ w. omega arith) ∙ ap (λ (x : ℕ). Refused (UnknownFlow x)) q in
@@ -126,25 +126,31 @@ module _ (fs : List Flow) (gs : List Grant) where
 
 -- ---- the answer of tests 14 to 18
 
-module _ (s : Seen) (counts : Checked) where
-  pub answer-14 : (s .unknown ≡ 0 → ⊥) → Refused (UnknownFlow (s .unknown)) ≡ answers s counts
+module _ (s : Seen) (k : ℕ) where
+  pub answer-14 : (s .unknown ≡ 0 → ⊥) → Refused (UnknownFlow (s .unknown)) ≡ answers s (noted GrantCount k)
   answer-14 n = rw (noted-some UnknownFlow (s .unknown) n)
 
   module _ (u : s .unknown ≡ 0) where
-    pub answer-15 : (r : Refusal) → counts ≡ Refused r → Refused r ≡ answers s counts
-    answer-15 r e = rw (noted-none UnknownFlow (s .unknown) u, e)
+    pub answer-15 : (k ≡ 0 → ⊥) → Refused (GrantCount k) ≡ answers s (noted GrantCount k)
+    answer-15 n = rw (noted-none UnknownFlow (s .unknown) u, noted-some GrantCount k n)
 
-    module _ (e : counts ≡ Passed) where
-      pub answer-16 : (s .timing ≡ 0 → ⊥) → Refused (Timing (s .timing)) ≡ answers s counts
-      answer-16 n = rw (noted-none UnknownFlow (s .unknown) u, e, noted-some Timing (s .timing) n)
+    module _ (e : k ≡ 0) where
+      pub answer-16 : (s .timing ≡ 0 → ⊥) → Refused (Timing (s .timing)) ≡ answers s (noted GrantCount k)
+      answer-16 n = rw (noted-none UnknownFlow (s .unknown) u, noted-none GrantCount k e, noted-some Timing (s .timing) n)
 
       module _ (t : s .timing ≡ 0) where
-        pub answer-17 : (s .overlap ≡ 0 → ⊥) → Refused (Overlap (s .overlap)) ≡ answers s counts
-        answer-17 n = rw (noted-none UnknownFlow (s .unknown) u, e, noted-none Timing (s .timing) t, noted-some Overlap (s .overlap) n)
+        pub answer-17 : (s .overlap ≡ 0 → ⊥) → Refused (Overlap (s .overlap)) ≡ answers s (noted GrantCount k)
+        answer-17 n = rw (noted-none UnknownFlow (s .unknown) u, noted-none GrantCount k e, noted-none Timing (s .timing) t, noted-some Overlap (s .overlap) n)
 
         module _ (o : s .overlap ≡ 0) where
-          pub answer-18 : (s .past ≡ 0 → ⊥) → Refused (PastCycle (s .past)) ≡ answers s counts
-          answer-18 n = rw (noted-none UnknownFlow (s .unknown) u, e, noted-none Timing (s .timing) t, noted-none Overlap (s .overlap) o, noted-some PastCycle (s .past) n)
+          pub answer-18 : (s .past ≡ 0 → ⊥) → Refused (PastCycle (s .past)) ≡ answers s (noted GrantCount k)
+          answer-18 n = rw (noted-none UnknownFlow (s .unknown) u, noted-none GrantCount k e, noted-none Timing (s .timing) t, noted-none Overlap (s .overlap) o, noted-some PastCycle (s .past) n)
 
-          pub answer-none : s .past ≡ 0 → Passed ≡ answers s counts
-          answer-none p = rw (noted-none UnknownFlow (s .unknown) u, e, noted-none Timing (s .timing) t, noted-none Overlap (s .overlap) o, noted-none PastCycle (s .past) p)
+          pub answer-none : s .past ≡ 0 → Passed ≡ answers s (noted GrantCount k)
+          answer-none p = rw (noted-none UnknownFlow (s .unknown) u, noted-none GrantCount k e, noted-none Timing (s .timing) t, noted-none Overlap (s .overlap) o, noted-none PastCycle (s .past) p)
+
+-- tests 14 to 18, by what is seen and what test 15 says
+pub answer-is : (fs : List Flow) (gs : List Grant) (s : Seen) (counts r : Checked) → ((c : Checked) → answers s c ≡ testsWith fs gs c) → counts ≡ test15 fs gs → r ≡ answers s counts
+    → r ≡ tests14to18 fs gs
+unfolding tests14to18
+answer-is fs gs s counts r w e a = a ∙ w counts ∙ ap (testsWith fs gs) e

@@ -9,16 +9,16 @@ use lib.ListN.{length, getD, drop}
 use Rattle.fields.specs.declared.flow.Flow.{Flow}
 use Rattle.fields.specs.Flows.{noFlow}
 use Rattle.refusals.specs.declared.Refusal.{Refusal}
-use Rattle.refusals.specs.declared.Refusal.the-variants.{OtherCycle, UnknownFlow, Timing, Overlap, PastCycle}
+use Rattle.refusals.specs.declared.Refusal.the-variants.{UnknownFlow, Timing, Overlap, PastCycle}
 use Rattle.refusals.specs.declared.Checked.{Checked}
 use Rattle.refusals.specs.declared.Checked.the-variants.{Passed, Refused}
-use Rattle.refusals.specs.Tests.{_⟫_, unless}
+use Rattle.refusals.specs.Tests.{_⟫_}
 use Rattle.lists.specs.Facts.{occupies}
 use Rattle.tables.specs.declared.packed.Grant.{Grant}
 use Rattle.tables.specs.Tables.{cycleOf, frameOf}
 use Rattle.checking.specs.declared.flows.Found.{Found}
 use Rattle.checking.specs.declared.faults.Seen.{Seen}
-use Rattle.law.specs.Check.{known, look, to}
+use Rattle.law.specs.Check.{known, look, to, test14, test16, test17, test18}
 
 -- the flow of that number, and whether the list has it
 abbrev pub found : List Flow → ℕ → Found
@@ -50,9 +50,9 @@ abbrev pub stampOf : Option ℕ → ℕ
 stampOf none = 0
 stampOf (some p) = p + 1
 
--- test 13 of a table, by the cycle c and the frame φ of its list
-abbrev pub belongs : ℕ → ℕ → List ℕ → Checked
-belongs c φ t = unless (eqb (cycleOf t) c && eqb (frameOf t) φ) OtherCycle
+-- the table has the cycle c and the frame φ
+abbrev pub belongs : ℕ → ℕ → List ℕ → Bool
+belongs c φ t = eqb (cycleOf t) c && eqb (frameOf t) φ
 
 -- what a test says by the place that is noted for it: 0 is no fault
 abbrev pub noted : (ℕ → Refusal) → ℕ → Checked
@@ -80,3 +80,7 @@ next s timely f g c here =
 -- what tests 14 to 18 say by what is seen, with what test 15 says
 abbrev pub answers : Seen → Checked → Checked
 answers s counts = noted UnknownFlow (s .unknown) ⟫ counts ⟫ noted Timing (s .timing) ⟫ noted Overlap (s .overlap) ⟫ noted PastCycle (s .past)
+
+-- tests 14 to 18 in their order, with what test 15 says
+abbrev pub testsWith : List Flow → List Grant → Checked → Checked
+testsWith fs gs counts = test14 fs gs ⟫ counts ⟫ test16 fs gs ⟫ test17 fs gs ⟫ test18 fs gs

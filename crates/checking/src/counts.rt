@@ -2,16 +2,15 @@
 ghost use mathlib.Core.Path.{_≡_};
 ghost use Prim.Native.Nat.{_<_};
 ghost use lib.ListN.{length};
+ghost use Rattle.refusals.specs.declared.Refusal.the-variants.{GrantCount};
 ghost use Rattle.lists.specs.Lists.{flowsOf};
 ghost use Rattle.lists.specs.Facts.{cycle as cycleOf};
 ghost use Rattle.tables.specs.Tables.{grantsOf};
 ghost use Rattle.law.specs.Check.{to, test15};
-ghost use Rattle.checking.specs.Parts.{Celled, Counts};
+ghost use Rattle.checking.specs.Parts.{Celled, Counts, noted};
 use crate::cells::clear;
 use crate::flows::FLOWS;
 use crate::flows::record_of;
-use refusals::Checked;
-use refusals::Refusal;
 
 // How many grants of the table are those of the flow of that number.
 fn grants_to(table: &[u8], number: u16) -> usize
@@ -53,17 +52,17 @@ fn grants_of(records: &[u8], table: &[u8], cells: &[u16], number: u16) -> usize
     grants_to(table, number)
 }
 
-// 15: wrong number of grants, at the first list record that has it.
+// 15: the first list record, counted from 1, with a wrong number of grants; 0 where there is none.
 pub(crate) fn test_15(
     list: &[u8],
     records: &[u8],
     cycle: u16,
     table: &[u8],
     cells: &mut [u16],
-) -> Checked
+) -> usize
     requires { ⌜ Celled (now records) × (length (now cells) ≡ 129) ⌝ }
     requires { ⌜ cycle ≡ cycleOf (flowsOf (now list)) ⌝ }
-    ensures { λ r. ⌜ r ≡ test15 (flowsOf (now (list .entry))) (grantsOf (now (table .entry))) ⌝ }
+    ensures { λ r. ⌜ noted GrantCount r ≡ test15 (flowsOf (now (list .entry))) (grantsOf (now (table .entry))) ⌝ }
 {
     count_grants(records, table, cells);
     let n = lists::count(list);
@@ -72,8 +71,8 @@ pub(crate) fn test_15(
         if grants_of(records, table, cells, f.number)
             != amounts::times(cycle, f.interval) as usize
         {
-            return Checked::Refused(Refusal::GrantCount(i + 1));
+            return i + 1;
         }
     }
-    Checked::Passed
+    0
 }

@@ -1,13 +1,12 @@
 // Tests 14, 16, 17 and 18 in one walk over the grants of a table: the first fault of each is noted.
 ghost use mathlib.Core.Path.{_≡_};
-ghost use lib.ListN.{length, replicate};
+ghost use lib.ListN.{replicate};
+ghost use Rattle.refusals.specs.declared.Refusal.the-variants.{GrantCount};
 ghost use Rattle.refusals.specs.declared.Checked.{Checked};
-ghost use Rattle.refusals.specs.Tests.{_⟫_};
 ghost use Rattle.lists.specs.Lists.{flowsOf};
 ghost use Rattle.lists.specs.Facts.{cycle as cycleOf};
 ghost use Rattle.tables.specs.Tables.{grantsOf};
-ghost use Rattle.law.specs.Check.{test14, test16, test17, test18};
-ghost use Rattle.checking.specs.Parts.{Indexed, note, next, answers};
+ghost use Rattle.checking.specs.Parts.{Indexed, noted, note, next, answers, testsWith};
 use crate::flows::find;
 use crate::flows::record_of;
 use crate::timing::last_of;
@@ -65,8 +64,7 @@ pub(crate) fn faults(
 ) -> Seen
     requires { ⌜ Indexed (flowsOf (now list)) 0 (now records) × (now cells ≡ replicate 129 0) ⌝ }
     requires { ⌜ cycle ≡ cycleOf (flowsOf (now list)) ⌝ }
-    ensures { λ r. ⌜ ((counts : Checked) → let fs = flowsOf (now (list .entry)) in let gs = grantsOf (now (table .entry)) in
-        answers r counts ≡ (test14 fs gs ⟫ counts ⟫ test16 fs gs ⟫ test17 fs gs ⟫ test18 fs gs)) ⌝ }
+    ensures { λ r. ⌜ ((counts : Checked) → answers r counts ≡ testsWith (flowsOf (now (list .entry))) (grantsOf (now (table .entry))) counts) ⌝ }
 {
     let n = tables::count(table);
     let flows = lists::count(list);
@@ -104,15 +102,15 @@ pub(crate) fn faults(
     seen
 }
 
-// What tests 14 to 18 say together, if test 15 says `counts`.
-pub fn answer(seen: Seen, counts: Checked) -> Checked
-    ensures { λ r. ⌜ r ≡ answers seen counts ⌝ }
+// What tests 14 to 18 say together, if `counts` is the place that is noted for test 15.
+pub fn answer(seen: Seen, counts: usize) -> Checked
+    ensures { λ r. ⌜ r ≡ answers seen (noted GrantCount counts) ⌝ }
 {
     if seen.unknown != 0 {
         return Checked::Refused(Refusal::UnknownFlow(seen.unknown));
     }
-    if let Checked::Refused(r) = counts {
-        return Checked::Refused(r);
+    if counts != 0 {
+        return Checked::Refused(Refusal::GrantCount(counts));
     }
     if seen.timing != 0 {
         return Checked::Refused(Refusal::Timing(seen.timing));

@@ -5,7 +5,7 @@ ghost use Rattle.lists.specs.Facts.{cycle as cycleOf};
 ghost use Rattle.tables.specs.Tables.{grantsOf};
 ghost use Rattle.law.specs.Check.{tests14to18, lawTests, check};
 ghost use Rattle.checking.specs.Parts.{Indexed};
-use crate::belongs::test_13;
+use crate::belongs::belongs;
 use crate::cells::CELLS;
 use crate::counts::test_15;
 use crate::faults::answer;
@@ -14,6 +14,7 @@ use crate::flows::ABSENT;
 use crate::flows::NUMBERS;
 use crate::flows::index;
 use refusals::Checked;
+use refusals::Refusal;
 
 // Tests 14 to 18 of a table against its list.
 fn tests_14_to_18(list: &[u8], records: &[u8], cycle: u16, table: &[u8]) -> Checked
@@ -32,9 +33,8 @@ pub fn law_tests(list: &[u8], table: &[u8]) -> Checked
 {
     let facts = lists::facts_of(list);
     let cycle = facts.cycle;
-    let whole = test_13(cycle, facts.frame, table);
-    if let Checked::Refused(r) = whole {
-        return Checked::Refused(r);
+    if !belongs(cycle, facts.frame, table) {
+        return Checked::Refused(Refusal::OtherCycle);
     }
     let mut records = [ABSENT; NUMBERS];
     index(list, &mut records);

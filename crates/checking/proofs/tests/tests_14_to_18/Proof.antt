@@ -1,13 +1,12 @@
 -- `checking::tests::tests_14_to_18` meets its contract.
 -- Assumes nothing.
-use mathlib.Core.Path.{ap, _∙_}
 use borrow.Author.Needs.{needs}
-use Rattle.refusals.specs.declared.Checked.{Checked}
-use Rattle.refusals.specs.Tests.{_⟫_}
+use Rattle.refusals.specs.declared.Refusal.the-variants.{GrantCount}
 use Rattle.lists.specs.Lists.{flowsOf}
 use Rattle.tables.specs.Tables.{grantsOf}
-use Rattle.law.specs.Check.{test14, test16, test17, test18, tests14to18}
+use Rattle.checking.specs.Parts.{noted}
 use Rattle.checking.proofs.Notes.{celled}
+use Rattle.checking.proofs.Walked.{answer-is}
 use Rattle.checking.proofs.tests.tests_14_to_18.Statement.{statement}
 use Rattle.checking.proofs.tests.tests_14_to_18.Tie as tie
 
@@ -29,16 +28,12 @@ answer-requires : tie.Need-answer-requires
 answer-requires c κs = search needs
 
 returns : tie.Need-returns
-unfolding tests14to18
 returns c =
     let t = c .before .before in
     let f = t .before .before .before in
     let a = f .before .before .before .before .before .args in
-    let fs = flowsOf (a .list .now) in
-    let gs = grantsOf (a .table .now) in
-    c .answer .ensures
-    ∙ f .faults .ensures (t .test-15 .result)
-    ∙ ap (λ (counts : Checked). test14 fs gs ⟫ counts ⟫ test16 fs gs ⟫ test17 fs gs ⟫ test18 fs gs) (t .test-15 .ensures)
+    answer-is (flowsOf (a .list .now)) (grantsOf (a .table .now)) (f .faults .result) (noted GrantCount (t .test-15 .result)) (c .answer .result)
+    (f .faults .ensures) (t .test-15 .ensures) (c .answer .ensures)
 
 pub tests-14-to-18-spec : {M : Type 1} → statement M
 tests-14-to-18-spec =
