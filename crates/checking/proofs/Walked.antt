@@ -32,9 +32,6 @@ pub noted-some : (refusal : ℕ → Refusal) (p : ℕ) → (p ≡ 0 → ⊥) →
 noted-some refusal zero n = absurd (n refl)
 noted-some refusal (suc p) n = refl
 
-pub note-first : (p here : ℕ) → p ≡ 0 → here ≡ note p false here
-note-first p here e = rw e
-
 pub note-kept : (p here : ℕ) → (p ≡ 0 → ⊥) → p ≡ note p false here
 note-kept zero here n = absurd (n refl)
 note-kept (suc p) here n = refl
