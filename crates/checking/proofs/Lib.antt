@@ -1,3 +1,5 @@
+pub mod Widths
 pub mod Turns
 pub mod Notes
+pub mod Walked
 pub mod Verdicts

@@ -1,23 +1,24 @@
 -- What is noted for numbers and flows: the list record of each number, and in each flow's cell how many grants it has or its last one.
 -- Assumes nothing.
-use mathlib.Core.Path.{_≡_, sym, ap, _∙_}
+use mathlib.Core.Path.{_≡_, refl, sym, ap, _∙_}
 use mathlib.Core.List.{List}
+use mathlib.Core.Option.{Option, none, some}
 use Prim.Native.Nat.{ℕ, _+_, _%_, _≤_, _<_, min}
 use native.Mathlib.Omega.{arith}
-use native.Mathlib.Nat.{mod-lt}
-use lib.Dec.{leb, lit<}
+use native.Mathlib.Nat.{mod-lt, mod-eq-of-lt}
+use lib.Dec.{eqb, ltb, lit<}
 use lib.ListN.{length, getD, set, drop, replicate, length-set, getD-replicate, drop-of-length-le}
 use lib.Seq.{getD-set-same, getD-set-other}
-use Rattle.logic.proofs.Tests.{by-test, by-lt, by-eq}
+use borrow.Author.Tests.{eq-eqb, ne-eqb}
+use Rattle.logic.proofs.Tests.{by-lt, by-eq}
 use Rattle.flows.specs.declared.flow.Flow.{Flow}
 use Rattle.flows.specs.Flows.{noFlow}
 use Rattle.refusals.proofs.Walks.{before}
 use Rattle.tables.specs.declared.packed.Grant.{Grant}
-use Rattle.lists.specs.Lists.{flowAt}
-use Rattle.law.specs.Check.{look, last, timely}
+use Rattle.law.specs.Check.{nominal, last, steps}
 use Rattle.law.specs.Law.{blank}
-use Rattle.checking.specs.Parts.{found, recordOf, Indexed, Counts}
-use Rattle.checking.proofs.Turns.{found-next, CountAt, count-end, count-own, count-other, last-next}
+use Rattle.checking.specs.Parts.{found, recordOf, Indexed, Celled, Counts, stampOf}
+use Rattle.checking.proofs.Turns.{found-next, CountAt, count-end, count-own, count-other, last-here, last-next}
 
 -- ---- the records that are noted for the numbers
 
@@ -34,6 +35,7 @@ indexed-none fs rs i e q =
       starts = λ x. rw (is x) (by-lt (length fs) 128
           (λ h. rw (drop-of-length-le fs {i = 128} (omega arith), drop-of-length-le fs {i = i} (omega arith)))
           (λ h. let z : i ≡ 128 = omega arith in rw z));
+      own = λ x h. absurd (omega (arith, is x));
     }
   where
     is : (x : ℕ) → recordOf rs x ≡ 128
@@ -52,64 +54,81 @@ indexed-next fs rs i k f a s h l e =
           (λ q. rw (note rs (f .number) k x (a .entries) q))
           (λ n. rw (getD-set-other rs (f .number % 1024) (x % 1024) k 0 n)
           (a .starts x ∙ ap (λ (j : ℕ). found (drop j fs) x) (sym s) ∙ sym (found-next fs x k l f e (λ q. n (ap (λ (y : ℕ). y % 1024) (sym q))))));
+      own = λ x. by-eq (x % 1024) (f .number % 1024)
+          (λ q h. rw (note rs (f .number) k x (a .entries) q) (ap (λ (y : Flow). y .number % 1024) (sym e) ∙ sym q))
+          (λ n. rw (getD-set-other rs (f .number % 1024) (x % 1024) k 0 n) (a .own x));
+    }
+
+-- the cells of a list whose records are noted
+pub celled : (fs : List Flow) (i : ℕ) (rs : List ℕ) → Indexed fs i rs → Celled rs
+celled fs i rs a =
+    record {
+      entries = a .entries;
+      low = a .low;
+      apart = λ x y p q h e.
+          let f : x % 1024 ≡ y % 1024 = sym (a .own x h) ∙ ap (λ (k : ℕ). getD fs k noFlow .number % 1024) e ∙ a .own y (omega arith) in
+          sym (mod-eq-of-lt p) ∙ f ∙ mod-eq-of-lt q;
     }
 
 -- ---- the cells of the flows' grants
 
--- a flow's cell says how many grants it has before record i, if the list record that is noted for its number has it
-abbrev pub CountsAt : List ℕ → List ℕ → List Grant → ℕ → List ℕ → Type 0
-CountsAt l rs gs i cs = (x : ℕ) → flowAt l (recordOf rs x) .number ≡ x → CountAt gs x i (getD cs (recordOf rs x) 0)
+-- no cell says more than i, and that of a number that a record is noted for how many grants it has before record i
+abbrev pub CountsAt : List ℕ → List Grant → ℕ → List ℕ → Type 0
+CountsAt rs gs i cs = ((k : ℕ) → getD cs k 0 ≤ i) × ((x : ℕ) → x < 1024 → recordOf rs x < 128 → CountAt gs x i (getD cs (recordOf rs x) 0))
 
-module _ (l rs : List ℕ) (gs : List Grant) where
-  pub counts-none : (cs : List ℕ) → ((k : ℕ) → getD cs k 0 ≡ 0) → CountsAt l rs gs 0 cs
-  counts-none cs z x o = let e = z (recordOf rs x) in rw e (omega arith, omega arith)
+module _ (rs : List ℕ) (gs : List Grant) where
+  pub counts-none : (cs : List ℕ) → ((k : ℕ) → getD cs k 0 ≡ 0) → CountsAt rs gs 0 cs
+  counts-none cs z = (λ k. omega (arith, z k), λ x p h. let e = z (recordOf rs x) in rw e (omega arith, omega arith))
 
-  pub counts-end : (i : ℕ) (cs : List ℕ) → length gs ≤ i → CountsAt l rs gs i cs → Counts l rs gs cs
-  counts-end i cs h a x o = count-end gs x i (getD cs (recordOf rs x) 0) (a x o) h
+  pub counts-end : (i : ℕ) (cs : List ℕ) → length gs ≤ i → CountsAt rs gs i cs → Counts rs gs cs
+  counts-end i cs h a x p q = count-end gs x i (getD cs (recordOf rs x) 0) (a .1 x p q) h
 
-  module _ (i : ℕ) (cs : List ℕ) (a : CountsAt l rs gs i cs) (h : i < length gs) (g : Grant) (e : g ≡ getD gs i blank) where
-    pub counts-own : flowAt l (recordOf rs (g .flow)) .number ≡ g .flow → recordOf rs (g .flow) < length cs
-        → CountsAt l rs gs (i + 1) (set cs (recordOf rs (g .flow)) (getD cs (recordOf rs (g .flow)) 0 + 1))
-    counts-own q f x o =
-        let k = recordOf rs (g .flow) in
-        let n = getD cs k 0 in
-        by-eq (recordOf rs x) k
-        (λ s.
-        let y : g .flow ≡ x = sym q ∙ ap (λ (j : ℕ). flowAt l j .number) (sym s) ∙ o in
-        let c : getD (set cs k (n + 1)) (recordOf rs x) 0 ≡ getD cs (recordOf rs x) 0 + 1 = rw s (getD-set-same cs k (n + 1) 0 f) in
-        rw c (count-own gs x i (getD cs (recordOf rs x) 0) (a x o) h g e y))
-        (λ s. rw (getD-set-other cs k (recordOf rs x) (n + 1) 0 s) (count-other gs x i (getD cs (recordOf rs x) 0) (a x o) h g e (λ y. s (ap (recordOf rs) (sym y)))))
-
-    pub counts-other : (flowAt l (recordOf rs (g .flow)) .number ≡ g .flow → ⊥) → CountsAt l rs gs (i + 1) cs
-    counts-other q x o =
-        count-other gs x i (getD cs (recordOf rs x) 0) (a x o) h g e
-        (λ y. q (ap (λ (z : ℕ). flowAt l (recordOf rs z) .number) y ∙ o ∙ sym y))
+  pub counts-next : Celled rs → (i : ℕ) (cs : List ℕ) → length cs ≡ 129 → CountsAt rs gs i cs → i < length gs → (g : Grant) → g ≡ getD gs i blank → g .flow < 1024
+      → CountsAt rs gs (i + 1) (set cs (recordOf rs (g .flow)) (getD cs (recordOf rs (g .flow)) 0 + 1))
+  counts-next d i cs l a h g e w =
+      let k = recordOf rs (g .flow) in
+      let n = getD cs k 0 in
+      let inside : k < length cs = omega (arith, d .low (g .flow)) in (
+        λ j. by-eq j k
+            (λ s. let v : getD (set cs k (n + 1)) j 0 ≡ n + 1 = rw s (getD-set-same cs k (n + 1) 0 inside) in omega (arith, a .0 k))
+            (λ s. omega (arith, getD-set-other cs k j (n + 1) 0 s, a .0 j)),
+        λ x p q. by-eq (recordOf rs x) k
+            (λ s.
+            let c : getD (set cs k (n + 1)) (recordOf rs x) 0 ≡ getD cs (recordOf rs x) 0 + 1 = rw s (getD-set-same cs k (n + 1) 0 inside) in
+            rw c (count-own gs x i (getD cs (recordOf rs x) 0) (a .1 x p q) h g e (sym (d .apart x (g .flow) p w q s))))
+            (λ s. rw (getD-set-other cs k (recordOf rs x) (n + 1) 0 s) (count-other gs x i (getD cs (recordOf rs x) 0) (a .1 x p q) h g e (λ y. s (ap (recordOf rs) (sym y))))),
+      )
 
 -- ---- the cells of the flows' last grants
 
--- a flow has no grant from the place in its cell up to record i
-abbrev pub Latest : List ℕ → List Grant → ℕ → List ℕ → Type 0
-Latest rs gs i cs = (x : ℕ) → (getD cs (recordOf rs x) 0 ≤ i) × (last 0 x (before gs blank (getD cs (recordOf rs x) 0)) ≡ last 0 x (before gs blank i))
+-- the cell of a number that a record is noted for says its last grant before record i
+abbrev pub Lasts : List ℕ → List Grant → ℕ → List ℕ → Type 0
+Lasts rs gs i cs = (x : ℕ) → x < 1024 → recordOf rs x < 128 → getD cs (recordOf rs x) 0 ≡ stampOf (last 0 x (before gs blank i))
 
-pub latest-none : (rs : List ℕ) (gs : List Grant) (cs : List ℕ) → ((k : ℕ) → getD cs k 0 ≡ 0) → Latest rs gs 0 cs
-latest-none rs gs cs z x = let e = z (recordOf rs x) in (omega arith, rw e)
+module _ (rs : List ℕ) (d : Celled rs) (gs : List Grant) where
+  pub lasts-none : (cs : List ℕ) → cs ≡ replicate 129 0 → Lasts rs gs 0 cs
+  unfolding last
+  lasts-none cs e x p h = ap (λ (ks : List ℕ). getD ks (recordOf rs x) 0) e ∙ getD-replicate 129 (recordOf rs x) 0 0 (omega arith)
 
-pub latest-next : (fs : List Flow) (rs : List ℕ) → Indexed fs 0 rs → (gs : List Grant) (i : ℕ) (cs : List ℕ) → length cs ≡ 129 → Latest rs gs i cs → (g : Grant) → g ≡ getD gs i blank
-    → Latest rs gs (i + 1) (set cs (recordOf rs (g .flow)) (i + 1))
-latest-next fs rs d gs i cs l a g e x =
-    let k = recordOf rs (g .flow) in
-    by-eq (recordOf rs x) k
-    (λ q.
-    let s : getD (set cs k (i + 1)) (recordOf rs x) 0 ≡ i + 1 = rw q (getD-set-same cs k (i + 1) 0 (omega (arith, d .low (g .flow)))) in
-    (omega arith, rw s))
-    (λ n.
-    let s = getD-set-other cs k (recordOf rs x) (i + 1) 0 n in
-    (omega (arith, a x .0), rw s (a x .1 ∙ sym (last-next gs x (i + 1) i (omega arith) g e (λ q. n (ap (recordOf rs) (sym q)))))))
+  pub lasts-next : (i : ℕ) (cs : List ℕ) → length cs ≡ 129 → Lasts rs gs i cs → (g : Grant) → g ≡ getD gs i blank → g .flow < 1024 → (v : ℕ) → v ≡ stampOf (some (nominal 0 g))
+      → Lasts rs gs (i + 1) (set cs (recordOf rs (g .flow)) v)
+  lasts-next i cs l a g e w v r x p h =
+      let k = recordOf rs (g .flow) in
+      by-eq (recordOf rs x) k
+      (λ s. rw s (getD-set-same cs k v 0 (omega (arith, d .low (g .flow))) ∙ r ∙ ap stampOf (sym (last-here gs x (i + 1) i (omega arith) g e (sym (d .apart x (g .flow) p w h s))))))
+      (λ s. rw (getD-set-other cs k (recordOf rs x) v 0 s) (a x p h ∙ ap stampOf (sym (last-next gs x (i + 1) i (omega arith) g e (λ q. s (ap (recordOf rs) (sym q)))))))
 
--- test 16 of a grant sees of those before it only the flow's last one
-pub timely-by : (fs : List Flow) (seen all : List Grant) (g : Grant) → last 0 (g .flow) seen ≡ last 0 (g .flow) all → timely 0 fs seen g ≡ timely 0 fs all g
-unfolding timely
-timely-by fs seen all g e =
-    by-test (leb (g .late) (look fs (g .flow) .jitter))
-    (λ p. by-test (leb (g .late) (0 + g .start)) (λ q. rw (p, timely) (rw q (rw e))) (λ q. rw (p, timely) (rw q)))
-    (λ p. rw (p, timely))
+-- ---- a nominal time and the stamp of the one before
+
+pub steps-none : (o : Option ℕ) (s i n : ℕ) → s ≡ stampOf o → s ≡ 0 → ltb n i ≡ steps i o n
+unfolding steps
+steps-none none s i n e z = refl
+steps-none (some p) s i n e z = absurd (omega arith)
+
+pub steps-some : (o : Option ℕ) (s i n : ℕ) → s ≡ stampOf o → (s ≡ 0 → ⊥) → eqb (n + 1) (s + i) ≡ steps i o n
+unfolding steps
+steps-some none s i n e z = absurd (z e)
+steps-some (some p) s i n e z =
+    by-eq n (p + i)
+    (λ q. rw (eq-eqb (n + 1) (s + i) (omega arith), eq-eqb n (p + i) q))
+    (λ q. rw (ne-eqb (n + 1) (s + i) (λ w. q (omega arith)), ne-eqb n (p + i) q))

@@ -1,22 +1,24 @@
--- What the code's own parts answer: a flow looked up, and the tests that look at one grant after another. Assumes nothing.
+-- What the code's own parts answer: a flow looked up, what is noted for it, and what one walk over the grants notes. Assumes nothing.
 use mathlib.Core.Path.{_≡_}
-use mathlib.Core.Bool.{Bool, _&&_}
-use mathlib.Core.List.{List, []}
-use Prim.Native.Nat.{ℕ, _+_, _%_, _≤_}
+use mathlib.Core.Bool.{Bool, true, false, _&&_}
+use mathlib.Core.List.{List}
+use mathlib.Core.Option.{Option, none, some}
+use Prim.Native.Nat.{ℕ, zero, suc, _+_, _%_, _≤_, _<_}
 use lib.Dec.{leb, eqb}
 use lib.ListN.{length, getD, drop}
 use Rattle.flows.specs.declared.flow.Flow.{Flow}
+use Rattle.flows.specs.Flows.{noFlow}
 use Rattle.refusals.specs.declared.Refusal.{Refusal}
-use Rattle.refusals.specs.declared.Refusal.the-variants.{OtherCycle, UnknownFlow, Overlap, PastCycle}
+use Rattle.refusals.specs.declared.Refusal.the-variants.{UnknownFlow, Timing, Overlap, PastCycle}
 use Rattle.refusals.specs.declared.Checked.{Checked}
-use Rattle.refusals.specs.Tests.{unless, lowest, against, after}
-use Rattle.lists.specs.Lists.{flowAt}
+use Rattle.refusals.specs.declared.Checked.the-variants.{Passed, Refused}
+use Rattle.refusals.specs.Tests.{_⟫_}
+use Rattle.lists.specs.Facts.{occupies}
 use Rattle.tables.specs.declared.packed.Grant.{Grant}
 use Rattle.tables.specs.Tables.{cycleOf, frameOf}
 use Rattle.checking.specs.declared.finding.Found.{Found}
-use Rattle.checking.specs.declared.grants.Test.{Test}
-use Rattle.checking.specs.declared.grants.Test.the-variants.{Listed, Clears, Ends}
-use Rattle.law.specs.Check.{known, look, slots, to, listed, clears}
+use Rattle.checking.specs.declared.faults.Seen.{Seen}
+use Rattle.law.specs.Check.{known, look, to, test14, test16, test17, test18}
 
 -- the flow of that number, and whether the list has it
 abbrev pub found : List Flow → ℕ → Found
@@ -26,32 +28,59 @@ found fs x = record { known = known fs x; flow = look fs x }
 abbrev pub recordOf : List ℕ → ℕ → ℕ
 recordOf rs x = getD rs (x % 1024) 0
 
--- the records from i on are noted: a search that starts at the one noted for a number finds what a search from i on finds
+-- the records from i on are noted: a search that starts at the one noted for a number finds what a search from i on finds, and that one has the number
 pub record Indexed (fs : List Flow) (i : ℕ) (rs : List ℕ) : Type 0 where
   pub entries : length rs ≡ 1024
   pub low : (x : ℕ) → recordOf rs x ≤ 128
   pub starts : (x : ℕ) → found (drop (recordOf rs x) fs) x ≡ found (drop i fs) x
+  pub own : (x : ℕ) → recordOf rs x < 128 → getD fs (recordOf rs x) noFlow .number % 1024 ≡ x % 1024
 
--- a flow's cell says how many grants it has, if the list record that is noted for its number has it
-abbrev pub Counts : List ℕ → List ℕ → List Grant → List ℕ → Type 0
-Counts l rs gs cs = (x : ℕ) → flowAt l (recordOf rs x) .number ≡ x → getD cs (recordOf rs x) 0 ≡ length (to x gs)
+-- the records noted tell cells apart: each number has one, and no two that a record is noted for share it
+pub record Celled (rs : List ℕ) : Type 0 where
+  pub entries : length rs ≡ 1024
+  pub low : (x : ℕ) → recordOf rs x ≤ 128
+  pub apart : (x y : ℕ) → x < 1024 → y < 1024 → recordOf rs x < 128 → recordOf rs x ≡ recordOf rs y → x ≡ y
 
--- test 13 of a table, by the cycle c and the frame φ of its list
-abbrev pub belongs : ℕ → ℕ → List ℕ → Checked
-belongs c φ t = unless (eqb (cycleOf t) c && eqb (frameOf t) φ) OtherCycle
+-- the cell of a number that a record is noted for says how many grants it has
+abbrev pub Counts : List ℕ → List Grant → List ℕ → Type 0
+Counts rs gs cs = (x : ℕ) → x < 1024 → recordOf rs x < 128 → getD cs (recordOf rs x) 0 ≡ length (to x gs)
 
--- what test 14, 17 or 18 asks of a grant, which sees those before it with the nearest first
-abbrev pub passes : Test → List Flow → List Grant → Grant → Bool
-passes Listed fs seen g = listed fs g
-passes Clears fs seen g = after (clears fs) seen g
-passes (Ends c) fs seen g = leb (g .start + slots fs g) c
+-- a nominal time as it is kept: 0 is none
+abbrev pub stampOf : Option ℕ → ℕ
+stampOf none = 0
+stampOf (some p) = p + 1
 
--- the refusal of a grant that does not pass
-abbrev pub refusalOf : Test → ℕ → Refusal
-refusalOf Listed p = UnknownFlow p
-refusalOf Clears p = Overlap p
-refusalOf (Ends c) p = PastCycle p
+-- the table has the cycle c and the frame φ
+abbrev pub belongs : ℕ → ℕ → List ℕ → Bool
+belongs c φ t = eqb (cycleOf t) c && eqb (frameOf t) φ
 
--- test 14, 17 or 18; of 18 with the cycle
-abbrev pub grantTest : Test → List Flow → List Grant → Checked
-grantTest test fs gs = lowest (refusalOf test) 1 (against (passes test fs) [] gs)
+-- what a test says by the place that is noted for it: 0 is no fault
+abbrev pub noted : (ℕ → Refusal) → ℕ → Checked
+noted refusal zero = Passed
+noted refusal (suc p) = Refused (refusal (suc p))
+
+-- the place that is noted after a record that passes or not
+abbrev pub note : ℕ → Bool → ℕ → ℕ
+note p true here = p
+note zero false here = here
+note (suc p) false here = suc p
+
+-- what is seen with a grant of a flow, which is timely or not, in a cycle of c slots
+abbrev pub next : Seen → Bool → Flow → Grant → ℕ → ℕ → Seen
+next s timely f g c here =
+    let end = g .start + occupies f in
+    record {
+      unknown = s .unknown;
+      timing = note (s .timing) timely here;
+      overlap = note (s .overlap) (leb (s .end) (g .start)) here;
+      past = note (s .past) (leb end c) here;
+      end = end;
+    }
+
+-- what tests 14 to 18 say by what is seen, with what test 15 says
+abbrev pub answers : Seen → Checked → Checked
+answers s counts = noted UnknownFlow (s .unknown) ⟫ counts ⟫ noted Timing (s .timing) ⟫ noted Overlap (s .overlap) ⟫ noted PastCycle (s .past)
+
+-- tests 14 to 18 in their order, with what test 15 says
+abbrev pub testsWith : List Flow → List Grant → Checked → Checked
+testsWith fs gs counts = test14 fs gs ⟫ counts ⟫ test16 fs gs ⟫ test17 fs gs ⟫ test18 fs gs

@@ -1,8 +1,8 @@
 // The flow of a grant, looked up in the list: for each number a list record is noted, and a search starts there.
 ghost use mathlib.Core.Path.{_≡_};
 ghost use Prim.Native.Nat.{_%_, _<_, min};
-ghost use lib.ListN.{length, replicate};
-ghost use Rattle.lists.specs.Lists.{flowsOf};
+ghost use lib.ListN.{length, drop, replicate};
+ghost use Rattle.lists.specs.Lists.{count, flowsOf};
 ghost use Rattle.checking.specs.Parts.{found, recordOf, Indexed};
 use flows::Flow;
 
@@ -13,7 +13,7 @@ pub struct Found {
 }
 
 // The flows of the longest list.
-const FLOWS: usize = 128;
+pub const FLOWS: usize = 128;
 
 // Numbers are below this one.
 pub const NUMBERS: usize = 1024;
@@ -36,7 +36,7 @@ fn noted(n: usize) -> usize
 }
 
 // Notes for each number the first list record that has it.
-pub fn index(list: &[u8], records: &mut [u8])
+pub(crate) fn index(list: &[u8], records: &mut [u8])
     requires { ⌜ now records ≡ replicate 1024 128 ⌝ }
     ensures { λ _. ⌜ Indexed (flowsOf (now (list .entry))) 0 (now (records .exit)) ⌝ }
 {
@@ -49,7 +49,7 @@ pub fn index(list: &[u8], records: &mut [u8])
 }
 
 // The list record, counted from 0, that is noted for the number.
-pub fn record_of(records: &[u8], number: u16) -> usize
+pub(crate) fn record_of(records: &[u8], number: u16) -> usize
     requires { ⌜ length (now records) ≡ 1024 ⌝ }
     ensures { λ r. ⌜ r ≡ recordOf (now (records .entry)) number ⌝ }
 {
@@ -57,13 +57,12 @@ pub fn record_of(records: &[u8], number: u16) -> usize
     records[k] as usize
 }
 
-// The list's flow of that number; zeros where the list has none.
-pub fn find(list: &[u8], records: &[u8], number: u16) -> Found
-    requires { ⌜ Indexed (flowsOf (now list)) 0 (now records) ⌝ }
-    ensures { λ r. ⌜ r ≡ found (flowsOf (now (list .entry))) number ⌝ }
+// The flow of that number among the n records of the list, searched from record k on; zeros where there is none.
+pub(crate) fn find(list: &[u8], n: usize, k: usize, number: u16) -> Found
+    requires { ⌜ n ≡ count (now list) ⌝ }
+    ensures { λ r. ⌜ r ≡ found (drop k (flowsOf (now (list .entry)))) number ⌝ }
 {
-    let n = lists::count(list);
-    for i in record_of(records, number)..n {
+    for i in k..n {
         let f = lists::flow_at(list, i);
         if f.number == number {
             return Found {

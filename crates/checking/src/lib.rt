@@ -4,10 +4,9 @@
 mod belongs;
 mod cells;
 mod counts;
+mod faults;
 mod finding;
-mod grants;
 mod numbers;
-mod slots;
 mod tests;
 mod timing;
 

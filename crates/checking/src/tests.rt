@@ -5,16 +5,16 @@ ghost use Rattle.lists.specs.Facts.{cycle as cycleOf};
 ghost use Rattle.tables.specs.Tables.{grantsOf};
 ghost use Rattle.law.specs.Check.{tests14to18, lawTests, check};
 ghost use Rattle.checking.specs.Parts.{Indexed};
-use crate::belongs::test_13;
+use crate::belongs::belongs;
 use crate::cells::CELLS;
 use crate::counts::test_15;
+use crate::faults::answer;
+use crate::faults::faults;
 use crate::finding::ABSENT;
 use crate::finding::NUMBERS;
 use crate::finding::index;
-use crate::grants::Test;
-use crate::grants::grant_test;
-use crate::timing::test_16;
 use refusals::Checked;
+use refusals::Refusal;
 
 // Tests 14 to 18 of a table against its list.
 fn tests_14_to_18(list: &[u8], records: &[u8], cycle: u16, table: &[u8]) -> Checked
@@ -22,34 +22,19 @@ fn tests_14_to_18(list: &[u8], records: &[u8], cycle: u16, table: &[u8]) -> Chec
     ensures { λ r. ⌜ r ≡ tests14to18 (flowsOf (now (list .entry))) (grantsOf (now (table .entry))) ⌝ }
 {
     let mut cells = [0u16; CELLS];
-    let flows = grant_test(Test::Listed, list, records, table);
-    if let Checked::Refused(r) = flows {
-        return Checked::Refused(r);
-    }
+    let seen = faults(list, records, cycle, table, &mut cells);
     let counts = test_15(list, records, cycle, table, &mut cells);
-    if let Checked::Refused(r) = counts {
-        return Checked::Refused(r);
-    }
-    let times = test_16(list, records, table, &mut cells);
-    if let Checked::Refused(r) = times {
-        return Checked::Refused(r);
-    }
-    let slots = grant_test(Test::Clears, list, records, table);
-    if let Checked::Refused(r) = slots {
-        return Checked::Refused(r);
-    }
-    grant_test(Test::Ends(cycle), list, records, table)
+    answer(seen, counts)
 }
 
 // Tests 13 to 18: what the law asks of a table whose list has passed tests 1 to 7 and whose form is right.
 pub fn law_tests(list: &[u8], table: &[u8]) -> Checked
     ensures { λ r. ⌜ r ≡ lawTests (flowsOf (now (list .entry))) (now (table .entry)) ⌝ }
 {
-    let facts = facts::facts_of(list);
-    let cycle = facts.cycle;
-    let whole = test_13(cycle, facts.frame, table);
-    if let Checked::Refused(r) = whole {
-        return Checked::Refused(r);
+    let span = facts::span_of(list);
+    let cycle = span.cycle;
+    if !belongs(cycle, span.frame, table) {
+        return Checked::Refused(Refusal::OtherCycle);
     }
     let mut records = [ABSENT; NUMBERS];
     index(list, &mut records);

@@ -1,19 +1,19 @@
-// Test 16: how late a grant is, and how its nominal time steps from the flow's last one.
+// Test 16 of a grant: how late it is, and how its nominal time steps from the flow's last one.
 ghost use mathlib.Core.Path.{_≡_};
-ghost use Prim.Native.Nat.{_≤_};
-ghost use lib.ListN.{length};
+ghost use mathlib.Core.List.{List};
+ghost use mathlib.Core.Option.{Option, some};
+ghost use Prim.Native.Nat.{ℕ, _≤_, _<_};
+ghost use lib.ListN.{length, getD};
+ghost use Rattle.flows.specs.declared.flow.Flow.{Flow};
 ghost use Rattle.refusals.proofs.Walks.{before};
-ghost use Rattle.lists.specs.Lists.{flowsOf};
+ghost use Rattle.tables.specs.declared.packed.Grant.{Grant};
 ghost use Rattle.tables.specs.Tables.{count, grantsOf};
-ghost use Rattle.law.specs.Check.{nominal, last, steps, timely, test16};
+ghost use Rattle.law.specs.Check.{look, nominal, last, steps, timely};
 ghost use Rattle.law.specs.Law.{blank};
-ghost use Rattle.checking.specs.Parts.{Indexed};
-use crate::cells::clear;
-use crate::finding::find;
-use crate::finding::record_of;
+ghost use Rattle.checking.specs.Parts.{stampOf};
+use crate::finding::FLOWS;
 use crate::numbers::wide;
-use refusals::Checked;
-use refusals::Refusal;
+use flows::Flow;
 use tables::Grant;
 
 // Start less late, and 0 where that is below 0.
@@ -26,53 +26,61 @@ fn nominal(g: Grant) -> u16
     g.start - g.late
 }
 
-// The nominal time of g is the interval after that of the flow's last grant before record i of the table; the first is below the interval.
-fn steps(table: &[u8], i: usize, g: Grant, interval: u16) -> bool
-    requires { ⌜ i ≤ count (now table) ⌝ }
-    ensures { λ r. ⌜ r ≡ steps interval (last 0 (g .flow) (before (grantsOf (now (table .entry))) blank i)) (nominal 0 g) ⌝ }
+// A grant's nominal time as it is kept: with 1 added, since 0 is no grant.
+pub(crate) fn stamp(g: Grant) -> u16
+    requires { ⌜ g .start < 4096 ⌝ }
+    ensures { λ r. ⌜ r ≡ stampOf (some (nominal 0 g)) ⌝ }
 {
-    let time = nominal(g);
+    nominal(g) + 1
+}
+
+// The stamp of the last grant of that number before record i of the table, searched back.
+fn last_before(table: &[u8], i: usize, number: u16) -> u16
+    requires { ⌜ i ≤ count (now table) ⌝ }
+    ensures { λ r. ⌜ r ≡ stampOf (last 0 number (before (grantsOf (now (table .entry))) blank i)) ⌝ }
+{
     let mut j = i;
     while 0 < j {
         j -= 1;
-        let earlier = tables::grant_at(table, j);
-        if earlier.flow == g.flow {
-            return wide(time) == wide(nominal(earlier)) + wide(interval);
+        let g = tables::grant_at(table, j);
+        if g.flow == number {
+            return stamp(g);
         }
     }
-    time < interval
+    0
 }
 
-// Grant g is late by no more than its jitter and its start, and steps from the flow's last one before record i of the table.
-fn timely(list: &[u8], records: &[u8], table: &[u8], i: usize, g: Grant) -> bool
-    requires { ⌜ Indexed (flowsOf (now list)) 0 (now records) ⌝ }
-    requires { ⌜ i ≤ count (now table) ⌝ }
-    ensures { λ r. ⌜ r ≡ timely 0 (flowsOf (now (list .entry))) (before (grantsOf (now (table .entry))) blank i) g ⌝ }
+// The same, out of the cell k of the number; a number that no record is noted for has none and is searched.
+pub(crate) fn last_of(table: &[u8], cells: &[u16], k: usize, i: usize, number: u16) -> u16
+    requires { ⌜ (i ≤ count (now table)) × (length (now cells) ≡ 129) ⌝ }
+    requires { ⌜ (k < 128 → getD (now cells) k 0 ≡ stampOf (last 0 number (before (grantsOf (now table)) blank i))) ⌝ }
+    ensures { λ r. ⌜ r ≡ stampOf (last 0 number (before (grantsOf (now (table .entry))) blank i)) ⌝ }
 {
-    let f = find(list, records, g.flow).flow;
+    if k < FLOWS {
+        return cells[k];
+    }
+    last_before(table, i, number)
+}
+
+// A nominal time is the interval after the one of the stamp; the first is below the interval.
+fn steps(interval: u16, stamp: u16, time: u16) -> bool
+    ensures { λ r. ⌜ ((o : Option ℕ) → stamp ≡ stampOf o → r ≡ steps interval o time) ⌝ }
+{
+    if stamp == 0 {
+        return time < interval;
+    }
+    wide(time) + 1 == wide(stamp) + wide(interval)
+}
+
+// Grant g of flow f is late by no more than its jitter and its start, and steps from the flow's last one.
+pub fn timely(f: Flow, stamp: u16, g: Grant) -> bool
+    ensures { λ r. ⌜ ((fs : List Flow) (seen : List Grant) → f ≡ look fs (g .flow) → stamp ≡ stampOf (last 0 (g .flow) seen) → r ≡ timely 0 fs seen g) ⌝ }
+{
     if f.jitter < g.late {
         return false;
     }
     if g.start < g.late {
         return false;
     }
-    steps(table, i, g, f.interval)
-}
-
-// 16: the first table record that is not timely. A flow's cell holds the place of its last grant so far, at which the walk back starts.
-pub fn test_16(list: &[u8], records: &[u8], table: &[u8], cells: &mut [u16]) -> Checked
-    requires { ⌜ Indexed (flowsOf (now list)) 0 (now records) × (length (now cells) ≡ 129) ⌝ }
-    ensures { λ r. ⌜ r ≡ test16 (flowsOf (now (list .entry))) (grantsOf (now (table .entry))) ⌝ }
-{
-    clear(cells);
-    let n = tables::count(table);
-    for i in 0..n {
-        let g = tables::grant_at(table, i);
-        let k = record_of(records, g.flow);
-        if !timely(list, records, table, cells[k] as usize, g) {
-            return Checked::Refused(Refusal::Timing(i + 1));
-        }
-        cells[k] = (i + 1) as u16;
-    }
-    Checked::Passed
+    steps(f.interval, stamp, nominal(g))
 }

@@ -67,8 +67,8 @@ pub fn facts_of(list: &[u8]) -> Facts
     }
 }
 
-// The largest and the smallest interval of the list.
-fn span_of(list: &[u8]) -> Span
+// The list's cycle and frame.
+pub fn span_of(list: &[u8]) -> Span
     ensures { λ r. ⌜ r ≡ spanOf (flowsOf (now (list .entry))) ⌝ }
 {
     let n = count(list);

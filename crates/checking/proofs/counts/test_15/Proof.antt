@@ -1,7 +1,7 @@
 -- `checking::counts::test_15` meets its contract.
 -- Assumes nothing.
 use mathlib.Core.Path.{_≡_, sym, ap, _∙_}
-use Prim.Native.Nat.{_-_, _≤_, _<_}
+use Prim.Native.Nat.{_+_, _-_, _≤_, _<_}
 use native.Mathlib.Omega.{arith}
 use lib.Dec.{eqb}
 use lib.ListN.{length, getD}
@@ -14,6 +14,8 @@ use Rattle.lists.specs.Lists.{flowsOf}
 use Rattle.lists.proofs.Records.{length-flows, flow-is}
 use Rattle.tables.specs.Tables.{grantsOf}
 use Rattle.law.specs.Check.{counted, test15}
+use Rattle.checking.proofs.Widths.{number-small}
+use Rattle.checking.proofs.Walked.{noted-some}
 use Rattle.checking.proofs.Verdicts.{counted-is}
 use Rattle.checking.proofs.counts.test_15.Statement.{statement}
 use Rattle.checking.proofs.counts.test_15.Tie as tie
@@ -47,7 +49,8 @@ grants-of-requires c κs =
     let n = c .before .before .before .before in
     let k = n .before .before .before .count-grants in
     let p = start n .pre .0 in
-    ((p .0, omega (arith, k .kept .1 .1 .1 .0, p .1)), k .ensures)
+    let f = c .before .flow-at in
+    ((p .0, omega (arith, k .kept .1 .1 .0, p .1), rw (f .ensures) (number-small (start n .args .list .now) (c .before .before .before .loop .i))), k .ensures)
 
 times-requires : tie.Need-times-requires Inv-loop μ-loop
 times-requires c κs = search needs
@@ -55,8 +58,8 @@ times-requires c κs = search needs
 cast-if1 : tie.Need-cast-if1 Inv-loop μ-loop
 cast-if1 c = search needs
 
-add-t18 : tie.Need-add-t18 Inv-loop μ-loop
-add-t18 c = search needs
+add-result : tie.Need-add-result Inv-loop μ-loop
+add-result c = search needs
 
 same-length : tie.Need-same-length Inv-loop μ-loop
 same-length c = search needs
@@ -85,7 +88,8 @@ returns c =
     let g = t .before .before .before in
     let v = g .before .before .loop in
     let a = start (g .before .before .before) .args in
-    walk-here GrantCount (λ _ f. counted (flowsOf (a .list .now)) (grantsOf (a .table .now)) f) (flowsOf (a .list .now)) noFlow (v .i) (inside g) (eqb (t .before .grants-of .result) (t .times .result)) (judged t) (ne-eqb _ _ (c .if1 .taken))
+    noted-some GrantCount (v .i + 1) (λ q. omega arith)
+    ∙ walk-here GrantCount (λ _ f. counted (flowsOf (a .list .now)) (grantsOf (a .table .now)) f) (flowsOf (a .list .now)) noFlow (v .i) (inside g) (eqb (t .before .grants-of .result) (t .times .result)) (judged t) (ne-eqb _ _ (c .if1 .taken))
     ∙ v .inv .1
 
 add-i : tie.Need-add-i Inv-loop μ-loop
@@ -129,7 +133,7 @@ test-15-spec =
     grants-of-requires
     times-requires
     cast-if1
-    add-t18
+    add-result
     same-length
     returns
     add-i

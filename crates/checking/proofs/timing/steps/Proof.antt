@@ -1,106 +1,45 @@
 -- `checking::timing::steps` meets its contract.
 -- Assumes nothing.
-use mathlib.Core.Path.{_≡_, refl, sym, _∙_}
-use mathlib.Core.Option.{none}
-use Prim.Native.Nat.{_-_, _≤_}
-use native.Mathlib.Omega.{arith}
-use lib.ListN.{getD}
 use borrow.Author.Needs.{needs}
-use Rattle.refusals.proofs.Walks.{before}
-use Rattle.tables.specs.Tables.{grantsOf}
-use Rattle.tables.proofs.Records.{grant-is}
-use Rattle.law.specs.Check.{nominal, last, steps}
-use Rattle.law.specs.Law.{blank}
-use Rattle.checking.proofs.Turns.{last-here, last-next}
+use Rattle.checking.proofs.Notes.{steps-none, steps-some}
 use Rattle.checking.proofs.timing.steps.Statement.{statement}
 use Rattle.checking.proofs.timing.steps.Tie as tie
 
-abbrev Inv-loop : tie.InvT-loop
-Inv-loop table i g interval time j₀ j = (j ≤ i) × (last 0 (g .flow) (before (grantsOf table) blank j) ≡ last 0 (g .flow) (before (grantsOf table) blank i))
+returns : tie.Need-returns
+returns c =
+    let a = c .before .args in
+    λ o e. steps-none o (a .stamp) (a .interval) (a .time) e (c .if1 .taken)
 
-abbrev μ-loop : tie.MeasureT-loop
-μ-loop table i g interval time j₀ j = j
-
-nominal-requires : tie.Need-nominal-requires Inv-loop μ-loop
-nominal-requires c κs = search needs
-
-loop-holds : tie.Need-loop-holds Inv-loop μ-loop
-loop-holds c = (omega arith, refl)
-
-sub-j : tie.Need-sub-j Inv-loop μ-loop
-sub-j c = search needs
-
-grant-at-requires : tie.Need-grant-at-requires Inv-loop μ-loop
-grant-at-requires c κs = search needs
-
-wide-requires : tie.Need-wide-requires Inv-loop μ-loop
+wide-requires : tie.Need-wide-requires
 wide-requires c κs = search needs
 
-nominal-requires-2 : tie.Need-nominal-requires-2 Inv-loop μ-loop
-nominal-requires-2 c κs = search needs
-
-wide-requires-2 : tie.Need-wide-requires-2 Inv-loop μ-loop
-wide-requires-2 c κs = search needs
-
-wide-requires-3 : tie.Need-wide-requires-3 Inv-loop μ-loop
-wide-requires-3 c κs = search needs
-
-add-result : tie.Need-add-result Inv-loop μ-loop
+add-result : tie.Need-add-result
 add-result c = search needs
 
--- what was read is the grant before
-read : (c : tie.After-grant-at Inv-loop μ-loop)
-    → c .grant-at .result ≡ getD (grantsOf (c .before .before .before .before .before .args .table .now)) (c .before .before .loop .j - 1) blank
-read c =
-    let s = c .before .before .before .before .before in
-    grant-is (s .args .table .now) blank (c .before .before .loop .j - 1) (c .grant-at .result) (omega (arith, s .pre)) (c .grant-at .ensures)
+wide-requires-2 : tie.Need-wide-requires-2
+wide-requires-2 c κs = search needs
 
-returns : tie.Need-returns Inv-loop μ-loop
-unfolding steps
-returns c =
-    let o = c .before .before .before .before in
-    let g = o .before .before .before in
-    let v = g .before .before .loop in
-    let t = g .before .before .before in
-    let a = t .before .before .args in
-    let l = sym (v .inv .1) ∙ last-here (grantsOf (a .table .now)) (a .g .flow) (v .j) (v .j - 1) (omega arith) (g .grant-at .result) (read g) (o .if1 .taken) in
-    rw (l, c .before .before .before .wide .ensures .0, c .before .wide2 .ensures .0, c .wide3 .ensures .0, t .nominal .ensures, c .before .before .nominal2 .ensures)
+wide-requires-3 : tie.Need-wide-requires-3
+wide-requires-3 c κs = search needs
 
-loop-less : tie.Need-loop-less Inv-loop μ-loop
-loop-less c = search needs
+add-result-2 : tie.Need-add-result-2
+add-result-2 c = search needs
 
-loop-again : tie.Need-loop-again Inv-loop μ-loop
-loop-again c =
-    let g = c .before .before .before in
-    let v = g .before .before .loop in
-    let a = g .before .before .before .before .before .args in
-    (omega arith, sym (last-next (grantsOf (a .table .now)) (a .g .flow) (v .j) (v .j - 1) (omega arith) (g .grant-at .result) (read g) (c .if1 .left)) ∙ v .inv .1)
-
-returns-2 : tie.Need-returns-2 Inv-loop μ-loop
-unfolding steps last
+returns-2 : tie.Need-returns-2
 returns-2 c =
-    let v = c .before .loop in
-    let z : v .j ≡ 0 = omega arith in
-    let a = c .before .before .before .before .args in
-    let l : none ≡ last 0 (a .g .flow) (before (grantsOf (a .table .now)) blank (a .i)) = rw z at (v .inv .1) in
-    rw (← l, c .before .before .nominal .ensures)
+    let t = c .before .before in
+    let a = t .before .before .args in
+    λ o e.
+    rw (t .wide .ensures .0, c .before .wide2 .ensures .0, c .wide3 .ensures .0) (steps-some o (a .stamp) (a .interval) (a .time) e (t .before .if1 .left))
 
 pub steps-spec : {M : Type 1} → statement M
 steps-spec =
     tie.close
     (tie.spec
-    Inv-loop
-    μ-loop
-    nominal-requires
-    loop-holds
-    sub-j
-    grant-at-requires
+    returns
     wide-requires
-    nominal-requires-2
+    add-result
     wide-requires-2
     wide-requires-3
-    add-result
-    returns
-    loop-less
-    loop-again
+    add-result-2
     returns-2)
