@@ -32,15 +32,20 @@ plans =
     ∷ (flow 1 1 11 2 ∷ flow 2 8 44 0 ∷ flow 3 8 44 0 ∷ flow 4 6 44 0 ∷ flow 5 6 44 0 ∷ flow 6 6 44 0 ∷ flow 7 6 44 0 ∷ [], refused 7)
     ∷ []
 
--- a flow whose nominal time is not where its frame starts; and a push that runs through a full frame to a grant that bears none
+-- a flow whose nominal time is not where its frame starts; a push that runs through a full frame to a grant that bears none; and a
+-- flow without jitter that a later one of its own group pushes
 abbrev readings : List (List Flow × Outcome (List Grant))
 readings = (
   flow 1 1 4 3 ∷ flow 2 4 8 0 ∷ flow 3 1 8 0 ∷ flow 4 1 16 0 ∷ [],
   done (grant 1 0 0 ∷ grant 2 1 0 ∷ grant 1 5 1 ∷ grant 3 6 0 ∷ grant 4 7 0 ∷ grant 1 8 0 ∷ grant 2 9 0 ∷ grant 1 13 1 ∷ grant 3 14 0 ∷ []),
 )
     ∷ (flow 1 1 4 2 ∷ flow 2 3 8 2 ∷ flow 3 1 8 0 ∷ flow 4 3 16 0 ∷ [], refused 4)
+    ∷ (
+      flow 1 1 4 1 ∷ flow 2 2 8 1 ∷ flow 3 3 16 0 ∷ flow 4 2 16 0 ∷ [],
+      done (grant 1 0 0 ∷ grant 2 1 0 ∷ grant 4 3 0 ∷ grant 1 5 1 ∷ grant 3 6 0 ∷ grant 1 9 1 ∷ grant 2 10 1 ∷ grant 1 12 0 ∷ []),
+    )
     ∷ []
 
 pub worked : All (λ p. planned (p .0) ≡ p .1) (plans ++ readings)
 unfolding sum occupies cycle least frame weight content within lawful takes firstLawful contents olds put group rep opened settle groups present rising intervals layout row rows planned
-worked = (refl, (refl, (refl, (refl, (refl, (refl, (refl, (refl, (refl, (refl, tt))))))))))
+worked = (refl, (refl, (refl, (refl, (refl, (refl, (refl, (refl, (refl, (refl, (refl, tt)))))))))))

@@ -80,6 +80,17 @@ put f k [] = []
 put f zero (x ∷ xs) = record { old = x .old; new = x .new ++ (f ∷ []) } ∷ xs
 put f (suc k) (x ∷ xs) = x ∷ put f k xs
 
+-- ---- a group's begin and end
+
+-- the frames of a layout before the next group's first flow is placed
+unfoldable pub opened : List (List Settled) → List Frame
+opened hs = map (λ (h : List Settled). record { old = h; new = [] }) hs
+
+-- "When a group ends, the start of each of its flows in that window is its first nominal time": the frame's overhang is its base
+unfoldable pub settle : ℕ → ℕ → List Frame → List (List Settled)
+settle φ o [] = []
+settle φ o (x ∷ xs) = (x .old ++ map (λ (f : Flow). record { flow = f; base = o }) (x .new)) ∷ settle φ (past φ o (content x)) xs
+
 -- ---- "Groups are taken by rising interval, and flows of a group in list order."
 
 -- the flows of interval i, in list order, each in its first lawful frame; "if there is none the list is refused"; the first of
@@ -96,15 +107,6 @@ group φ i p xs (f ∷ fs) =
 unfoldable pub rep : {A : Type 0} → ℕ → List A → List A
 rep zero hs = []
 rep (suc m) hs = hs ++ rep m hs
-
--- the frames of a layout before the next group's first flow is placed
-unfoldable pub opened : List (List Settled) → List Frame
-opened hs = map (λ (h : List Settled). record { old = h; new = [] }) hs
-
--- "When a group ends, the start of each of its flows in that window is its first nominal time": the frame's overhang is its base
-unfoldable pub settle : ℕ → ℕ → List Frame → List (List Settled)
-settle φ o [] = []
-settle φ o (x ∷ xs) = (x .old ++ map (λ (f : Flow). record { flow = f; base = o }) (x .new)) ∷ settle φ (past φ o (content x)) xs
 
 -- the groups of the intervals is, one after the other; the layout so far fills a window of t slots
 unfoldable pub groups : ℕ → List Flow → ℕ → List (List Settled) → List ℕ → Outcome (List (List Settled))
