@@ -2,14 +2,16 @@
 ghost use mathlib.Core.Path.{_≡_};
 ghost use Prim.Native.Nat.{_*_, _<_, _≤_, min};
 ghost use lib.ListN.{length, take, getD};
-ghost use Rattle.planner.specs.Cells.{over, step, stepOf, stamp, endedOf};
+ghost use Rattle.planner.specs.Cells.{over, Starts, step, stepOf, stamp, endedOf};
+use crate::frames::Reach;
 use crate::frames::overhang;
 use crate::frames::wide;
 use crate::search::first_lawful;
 use flows::Flow;
 use placing::Found;
 
-// Puts the flow, which has the index j, into its first lawful frame, unless it is of another group. False where there is none.
+// Puts the flow, which has the index j, into its first lawful frame, unless it is of another group: none before the given one has a free
+// slot. False where there is none.
 pub(crate) fn place(
     f: Flow,
     j: usize,
@@ -18,8 +20,10 @@ pub(crate) fn place(
     contents: &mut [u16],
     limits: &[u16],
     frames: &mut [u8],
+    from: Reach,
 ) -> bool
     requires { ⌜ (length (now limits) ≡ length (now contents)) × (length (now contents) ≤ 256) × (length (now contents) * frame < 65536) × (j < length (now frames)) ⌝ }
+    requires { ⌜ Starts frame (now contents) (from .at) (from .over) ⌝ }
     ensures { λ r. ⌜ stepOf r (now (contents .exit)) (now (frames .exit)) ≡ step frame interval j (now (contents .entry)) (now (limits .entry)) (now (frames .entry)) f ⌝ }
 {
     let own = f.interval;
@@ -27,7 +31,7 @@ pub(crate) fn place(
         return true;
     }
     let size = lists::occupies(f);
-    let found = first_lawful(contents, limits, frame, size);
+    let found = first_lawful(contents, limits, frame, size, from);
     let Found::At(k) = found else {
         return false;
     };

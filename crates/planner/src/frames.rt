@@ -5,6 +5,12 @@ ghost use lib.ListN.{length, take};
 ghost use Rattle.placing.specs.Rule.{rep};
 ghost use Rattle.planner.specs.Cells.{over};
 
+// Where a walk along the frames stands: at which frame, and what overhang comes into it.
+pub struct Reach {
+    pub at: usize,
+    pub over: u32,
+}
+
 // The same number.
 pub(crate) fn wide(x: u16) -> u32
     ensures { λ r. ⌜ (r ≡ x) × (r < 65536) ⌝ }
