@@ -59,9 +59,10 @@ fn settle_group(
     requires { ⌜ ((k : ℕ) → k < length (now contents) → over frame 0 (take k (now contents)) < 65536) ⌝ }
     ensures { λ _. ⌜ endedOf (now (limits .exit)) (now (bases .exit)) ≡ endCells frame interval 0 (now (contents .entry)) (now (limits .entry)) (now (frames .entry)) (now (bases .entry)) (flowsOf (now (list .entry))) ⌝ }
 {
+    let mut from = Reach { at: 0, over: 0 };
     for i in 0..lists::count(list) {
         let f = lists::flow_at(list, i);
-        settle(f, i, interval, frame, contents, limits, frames, bases);
+        from = settle(f, i, interval, frame, contents, limits, frames, bases, from);
     }
 }
 

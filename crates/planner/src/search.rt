@@ -21,7 +21,7 @@ fn full(contents: &[u16], frame: u16, k: usize, over: u32) -> bool
     }
 }
 
-// The next frame that has a free slot, or the window's end, where none before the given one has any.
+// The first frame that has a free slot, or the window's end; none before the given one has any.
 pub(crate) fn first_free(contents: &[u16], frame: u16, from: Reach) -> Reach
     requires { ⌜ length (now contents) ≤ 256 ⌝ }
     requires { ⌜ Starts frame (now contents) (from .at) (from .over) ⌝ }
@@ -47,7 +47,7 @@ fn stopped(limits: &[u16], k: usize, push: u32) -> bool
     }
 }
 
-// The first frame of the window in which `size` slots more are lawful, where none before the given one has a free slot. Nothing is stored.
+// The first frame of the window in which `size` slots more are lawful; none before the given one has a free slot. Nothing is stored.
 pub(crate) fn first_lawful(
     contents: &[u16],
     limits: &[u16],
