@@ -1,5 +1,6 @@
 pub mod Limits
 pub mod Runs
+pub mod Starts
 pub mod Copies
 pub mod Grouping
 pub mod Settling

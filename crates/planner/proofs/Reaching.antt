@@ -27,7 +27,7 @@ use Rattle.planner.proofs.Closing.{narrow}
 use Rattle.planner.proofs.Rising.{from-none, from-next, intervals-from, next-present, next-none, present-le}
 
 -- the groups below interval i (0: all) are placed, in windows of t slots
-pub record Reached (φ i t w : ℕ) (fs : List Flow) (is : List ℕ) (hs : List (List Settled)) (cs ls ks bs : List ℕ) : Type 0 where
+pub record Upto (φ i t w : ℕ) (fs : List Flow) (is : List ℕ) (hs : List (List Settled)) (cs ls ks bs : List ℕ) : Type 0 where
   pub agrees : Agrees φ fs is hs (take w cs) (take w ls) ks bs
   pub wide : length hs ≡ w
   pub some : 0 < w
@@ -45,10 +45,10 @@ empty-lawful : (φ : ℕ) → lawful φ 0 (loads ([] ∷ [])) ([] ∷ []) ≡ tr
 unfolding lawful loads weight sum within
 empty-lawful φ = let z : 0 + 0 - φ ≡ 0 = omega arith in rw z
 
-pub reached-start : (fs : List Flow) (cs ls ks bs : List ℕ) → Accepted fs → take 1 cs ≡ 0 ∷ [] → take 1 ls ≡ free ∷ []
-    → Reached (frame fs) (frame fs) (frame fs) 1 fs [] ([] ∷ []) cs ls ks bs
+pub upto-start : (fs : List Flow) (cs ls ks bs : List ℕ) → Accepted fs → take 1 cs ≡ 0 ∷ [] → take 1 ls ≡ free ∷ []
+    → Upto (frame fs) (frame fs) (frame fs) 1 fs [] ([] ∷ []) cs ls ks bs
 unfolding loads weight sum limits limit standing layout
-reached-start fs cs ls ks bs A ec el =
+upto-start fs cs ls ks bs A ec el =
     record {
       agrees = record { content = ec; limit = el; law = empty-lawful (frame fs); stand = λ m h. single m h };
       wide = refl;
@@ -90,7 +90,7 @@ module _ (φ i t w : ℕ) (n : i ≡ 0 → ⊥) (slots : w * φ ≡ t) (d : t �
 -- ---- the window of the next group
 
 module _ {φ i t w : ℕ} {fs : List Flow} {is : List ℕ} {hs : List (List Settled)} {cs ls ks bs : List ℕ} (A : Accepted fs)
-    (R : Reached φ i t w fs is hs cs ls ks bs) (n : i ≡ 0 → ⊥) where
+    (R : Upto φ i t w fs is hs cs ls ks bs) (n : i ≡ 0 → ⊥) where
   abbrev next : (t ∣ i) × (present i fs ≡ true) × Before φ i w is
   next = R .next n
 
@@ -100,8 +100,8 @@ module _ {φ i t w : ℕ} {fs : List Flow} {is : List ℕ} {hs : List (List Sett
   enough : w ≤ i / φ
   enough = narrow (i / t) w (i / φ) fills (times-positive φ i t w n (R .slots) (next .0))
 
-  unfoldable reached-opens : φ ≡ frame fs → i / φ ≤ length cs → i / φ ≤ length ls → Opened φ i w fs is hs (take (i / φ) cs) (take (i / φ) ls) ks bs
-  reached-opens f c l =
+  unfoldable upto-opens : φ ≡ frame fs → i / φ ≤ length cs → i / φ ≤ length ls → Opened φ i w fs is hs (take (i / φ) cs) (take (i / φ) ls) ks bs
+  upto-opens f c l =
       let S = R .agrees in
       let many : length (take (i / φ) cs) ≡ i / φ = length-take-le (i / φ) cs c in
       record {
@@ -135,8 +135,8 @@ module _ {φ i t w : ℕ} {fs : List Flow} {is : List ℕ} {hs : List (List Sett
   layout-on r e = sym (R .rest) ∙ rw to-come (rw (e, groups))
 
   -- a refusal is the list's
-  reached-refused : (p : ℕ) (ds ms ns es : List ℕ) → Closed φ i fs is (group φ i 1 (opened (rep (i / t) hs)) fs) (NoFrame p) ds ms ns es → layout fs ≡ refused p
-  reached-refused p ds ms ns es = go (group φ i 1 (opened (rep (i / t) hs)) fs) refl
+  upto-refused : (p : ℕ) (ds ms ns es : List ℕ) → Closed φ i fs is (group φ i 1 (opened (rep (i / t) hs)) fs) (NoFrame p) ds ms ns es → layout fs ≡ refused p
+  upto-refused p ds ms ns es = go (group φ i 1 (opened (rep (i / t) hs)) fs) refl
     where
       go : (r : Outcome (List Frame)) → group φ i 1 (opened (rep (i / t) hs)) fs ≡ r → Closed φ i fs is r (NoFrame p) ds ms ns es → layout fs ≡ refused p
       go (refused q) e h = layout-on (refused q) e ∙ cc
@@ -147,12 +147,12 @@ module _ {φ i t w : ℕ} {fs : List Flow} {is : List ℕ} {hs : List (List Sett
   before-on j v [] l d e b = (l, e, tt)
   before-on j v (x ∷ ns) l d e b = (omega arith, dvd-trans (x / φ) (b .1) d, before-on j v ns l d e (b .2))
 
-  reached-next : φ ≡ frame fs → (ds ms ns es : List ℕ) → Closed φ i fs is (group φ i 1 (opened (rep (i / t) hs)) fs) Lawful (take (i / φ) ds) (take (i / φ) ms) ns es
-      → (gs : List (List Settled)) × Reached φ (nextInterval i 0 fs) i (i / φ) fs (is ++ (i ∷ [])) gs ds ms ns es
-  reached-next f ds ms ns es = go (group φ i 1 (opened (rep (i / t) hs)) fs) refl
+  upto-next : φ ≡ frame fs → (ds ms ns es : List ℕ) → Closed φ i fs is (group φ i 1 (opened (rep (i / t) hs)) fs) Lawful (take (i / φ) ds) (take (i / φ) ms) ns es
+      → (gs : List (List Settled)) × Upto φ (nextInterval i 0 fs) i (i / φ) fs (is ++ (i ∷ [])) gs ds ms ns es
+  upto-next f ds ms ns es = go (group φ i 1 (opened (rep (i / t) hs)) fs) refl
     where
       go : (r : Outcome (List Frame)) → group φ i 1 (opened (rep (i / t) hs)) fs ≡ r → Closed φ i fs is r Lawful (take (i / φ) ds) (take (i / φ) ms) ns es
-          → (gs : List (List Settled)) × Reached φ (nextInterval i 0 fs) i (i / φ) fs (is ++ (i ∷ [])) gs ds ms ns es
+          → (gs : List (List Settled)) × Upto φ (nextInterval i 0 fs) i (i / φ) fs (is ++ (i ∷ [])) gs ds ms ns es
       go (refused q) e h = let z : Lawful ≡ NoFrame q = h in let y : _≡_ {A = ℕ} 0 1 = cc in absurd (omega arith)
       go (done L) e h = (
         settle φ 0 L,
@@ -179,33 +179,33 @@ module _ {φ i t w : ℕ} {fs : List Flow} {is : List ℕ} {hs : List (List Sett
 
   module _ (f : φ ≡ frame fs) (k : ℕ) (e : k ≡ i / φ) (c : k ≤ length cs) (l : k ≤ length ls) where
     pub ready-on : Ready φ i w fs (take k cs) (take k ls) ks bs
-    ready-on = rw e (is, hs, reached-opens f (omega arith) (omega arith))
+    ready-on = rw e (is, hs, upto-opens f (omega arith) (omega arith))
 
     closed-on : (r : Placed) (ds ms ns es : List ℕ) → Added φ i w fs (take k cs) (take k ls) ks bs r ds ms ns es
         → Closed φ i fs is (group φ i 1 (opened (rep (i / t) hs)) fs) r ds ms ns es
-    unfolding reached-opens
-    closed-on r ds ms ns es a = (rw e at a) is hs (reached-opens f (omega arith) (omega arith))
+    unfolding upto-opens
+    closed-on r ds ms ns es a = (rw e at a) is hs (upto-opens f (omega arith) (omega arith))
 
     pub refused-on : (p : ℕ) (r : Placed) (ds ms ns es cs′ ls′ : List ℕ) → Added φ i w fs (take k cs) (take k ls) ks bs r ds ms ns es → r ≡ NoFrame p
         → Finished φ fs (layout fs) (NoFrame p) cs′ ls′ ns es
-    refused-on p r ds ms ns es cs′ ls′ a q = rw (reached-refused p ds ms ns es (rw q at (closed-on r ds ms ns es a))) refl
+    refused-on p r ds ms ns es cs′ ls′ a q = rw (upto-refused p ds ms ns es (rw q at (closed-on r ds ms ns es a))) refl
 
     pub next-on : (r : Placed) (ds ms ns es : List ℕ) → length ds ≡ length (take k cs) → length ms ≡ length (take k ls)
         → Added φ i w fs (take k cs) (take k ls) ks bs r ds ms ns es → r ≡ Lawful
-        → (gs : List (List Settled)) × Reached φ (nextInterval i 0 fs) i (i / φ) fs (is ++ (i ∷ [])) gs (ds ++ drop k cs) (ms ++ drop k ls) ns es
+        → (gs : List (List Settled)) × Upto φ (nextInterval i 0 fs) i (i / φ) fs (is ++ (i ∷ [])) gs (ds ++ drop k cs) (ms ++ drop k ls) ns es
     next-on r ds ms ns es lc ll a q =
-        reached-next f (ds ++ drop k cs) (ms ++ drop k ls) ns es
+        upto-next f (ds ++ drop k cs) (ms ++ drop k ls) ns es
         (rw (take-at ds (drop k cs) (i / φ) (lc ∙ length-take-le k cs c ∙ e), take-at ms (drop k ls) (i / φ) (ll ∙ length-take-le k ls l ∙ e))
         (rw q at (closed-on r ds ms ns es a)))
 
 -- ---- the end
 
-module _ {φ i t w : ℕ} {fs : List Flow} {is : List ℕ} {hs : List (List Settled)} {cs ls ks bs : List ℕ} (R : Reached φ i t w fs is hs cs ls ks bs) (z : i ≡ 0) where
-  pub reached-all : is ≡ intervals fs
-  reached-all = sym (append-nil is) ∙ rw (sym (from-none fs i z)) (R .order)
+module _ {φ i t w : ℕ} {fs : List Flow} {is : List ℕ} {hs : List (List Settled)} {cs ls ks bs : List ℕ} (R : Upto φ i t w fs is hs cs ls ks bs) (z : i ≡ 0) where
+  pub upto-all : is ≡ intervals fs
+  upto-all = sym (append-nil is) ∙ rw (sym (from-none fs i z)) (R .order)
 
-  pub reached-end : Finished φ fs (layout fs) Lawful cs ls ks bs
+  pub upto-end : Finished φ fs (layout fs) Lawful cs ls ks bs
   unfolding groups
-  reached-end =
+  upto-end =
       let l : layout fs ≡ done hs = sym (R .rest) ∙ rw (from-none fs i z) in
-      rw l (refl, rw (R .wide, sym reached-all) (R .agrees), rw (R .wide) (R .slots ∙ R .end z), rw (R .wide) (R .most))
+      rw l (refl, rw (R .wide, sym upto-all) (R .agrees), rw (R .wide) (R .slots ∙ R .end z), rw (R .wide) (R .most))

@@ -1,10 +1,11 @@
 -- The placing rule by numbers, as the code has it: for each frame its content and its limit, for each flow its frame and its base.
 -- Assumes nothing.
+use mathlib.Core.Path.{_≡_}
 use mathlib.Core.Bool.{Bool, true, false, _&&_}
 use mathlib.Core.List.{List, [], _∷_, _++_, map}
-use Prim.Native.Nat.{ℕ, suc, _+_, _/_, _%_, _≤_, min}
+use Prim.Native.Nat.{ℕ, suc, _+_, _*_, _/_, _%_, _≤_, _<_, min}
 use lib.Dec.{ltb, eqb}
-use lib.ListN.{getD, set, take}
+use lib.ListN.{length, getD, set, take}
 use Rattle.logic.specs.Lists.{All}
 use Rattle.flows.specs.declared.flow.Flow.{Flow}
 use Rattle.lists.specs.Facts.{occupies}
@@ -18,6 +19,18 @@ use Rattle.planner.specs.declared.placed.Placed.the-variants.{Lawful, No
 unfoldable pub over : ℕ → ℕ → List ℕ → ℕ
 over φ o [] = o
 over φ o (c ∷ cs) = over φ (past φ o c) cs
+
+-- a walk along the frames stands at frame k, and the overhang o comes into it
+abbrev pub Reached : ℕ → List ℕ → ℕ → ℕ → Type 0
+Reached φ cs k o = (k ≤ length cs) × (o ≤ 65535 * k) × (o ≡ over φ 0 (take k cs))
+
+-- none of the first k frames has a free slot
+abbrev pub Full : ℕ → List ℕ → ℕ → Type 0
+Full φ cs k = (j : ℕ) → j < k → φ ≤ over φ 0 (take j cs) + getD cs j 0
+
+-- a search may start at frame k
+abbrev pub Starts : ℕ → List ℕ → ℕ → ℕ → Type 0
+Starts φ cs k o = Reached φ cs k o × Full φ cs k
 
 -- the contents of a layout's frames
 unfoldable pub loads : List (List Settled) → List ℕ

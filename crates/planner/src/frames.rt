@@ -3,7 +3,13 @@ ghost use mathlib.Core.Path.{_≡_};
 ghost use Prim.Native.Nat.{ℕ, _-_, _*_, _<_, _≤_};
 ghost use lib.ListN.{length, take};
 ghost use Rattle.placing.specs.Rule.{rep};
-ghost use Rattle.planner.specs.Cells.{over};
+ghost use Rattle.planner.specs.Cells.{Reached};
+
+// Where a walk along the frames stands: its frame, and the overhang that comes into it.
+pub struct Reach {
+    pub at: usize,
+    pub over: u32,
+}
 
 // The same number.
 pub(crate) fn wide(x: u16) -> u32
@@ -20,14 +26,21 @@ pub(crate) fn past(t: u32, frame: u16) -> u32
     if slots < t { t - slots } else { 0 }
 }
 
-// What passes the last of the frames.
-pub(crate) fn overhang(contents: &[u16], frame: u16) -> u32
-    requires { ⌜ length (now contents) ≤ 256 ⌝ }
-    ensures { λ r. ⌜ r ≡ over frame 0 (now (contents .entry)) ⌝ }
+// The overhang that comes into frame k, worked out from where a walk stands, or from the front where that is behind k.
+pub(crate) fn overhang(contents: &[u16], frame: u16, from: Reach, k: usize) -> u32
+    requires { ⌜ (length (now contents) ≤ 256) × (k ≤ length (now contents)) ⌝ }
+    requires { ⌜ Reached frame (now contents) (from .at) (from .over) ⌝ }
+    ensures { λ r. ⌜ Reached frame (now (contents .entry)) k r ⌝ }
 {
     let mut over: u32 = 0;
-    for k in 0..contents.len() {
-        over = past(over + wide(contents[k]), frame);
+    let mut j: usize = 0;
+    if from.at <= k {
+        over = from.over;
+        j = from.at;
+    }
+    while j < k {
+        over = past(over + wide(contents[j]), frame);
+        j += 1;
     }
     over
 }

@@ -13,9 +13,11 @@ ghost use Rattle.planner.specs.State.{Ready, Added};
 ghost use Rattle.planner.specs.Finished.{Finished, Housed, Taken};
 use crate::flow::place;
 use crate::flow::settle;
+use crate::frames::Reach;
 use crate::frames::repeat;
 use crate::intervals::next_interval;
 use crate::placed::Placed;
+use crate::search::first_free;
 
 // Places the flows of one interval, in list order, in the window.
 fn place_group(
@@ -30,9 +32,11 @@ fn place_group(
     requires { ⌜ (length (now limits) ≡ length (now contents)) × (length (now contents) ≤ 256) × (length (now contents) * frame < 65536) ⌝ }
     ensures { λ r. ⌜ laidOf r (now (contents .exit)) (now (frames .exit)) ≡ groupCells frame interval 0 (now (contents .entry)) (now (limits .entry)) (now (frames .entry)) (flowsOf (now (list .entry))) ⌝ }
 {
+    let mut from = Reach { at: 0, over: 0 };
     for i in 0..lists::count(list) {
         let f = lists::flow_at(list, i);
-        if !place(f, i, interval, frame, contents, limits, frames) {
+        from = first_free(contents, frame, from);
+        if !place(f, i, interval, frame, contents, limits, frames, from) {
             return Placed::NoFrame(i + 1);
         }
     }
@@ -55,9 +59,10 @@ fn settle_group(
     requires { ⌜ ((k : ℕ) → k < length (now contents) → over frame 0 (take k (now contents)) < 65536) ⌝ }
     ensures { λ _. ⌜ endedOf (now (limits .exit)) (now (bases .exit)) ≡ endCells frame interval 0 (now (contents .entry)) (now (limits .entry)) (now (frames .entry)) (now (bases .entry)) (flowsOf (now (list .entry))) ⌝ }
 {
+    let mut from = Reach { at: 0, over: 0 };
     for i in 0..lists::count(list) {
         let f = lists::flow_at(list, i);
-        settle(f, i, interval, frame, contents, limits, frames, bases);
+        from = settle(f, i, interval, frame, contents, limits, frames, bases, from);
     }
 }
 

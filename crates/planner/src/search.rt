@@ -1,11 +1,40 @@
 // The search for a flow's frame.
 ghost use mathlib.Core.Path.{_≡_};
-ghost use Prim.Native.Nat.{_≤_};
-ghost use lib.ListN.{length, drop};
-ghost use Rattle.planner.specs.Cells.{first, stops};
+ghost use mathlib.Core.Bool.{true};
+ghost use Prim.Native.Nat.{_+_, _*_, _≤_, _<_};
+ghost use lib.ListN.{length, getD, drop};
+ghost use Rattle.planner.specs.Cells.{Starts, first, stops};
+use crate::frames::Reach;
 use crate::frames::past;
 use crate::frames::wide;
 use placing::Found;
+
+// Frame k is one of the window, and with the overhang `over` it has no free slot.
+fn full(contents: &[u16], frame: u16, k: usize, over: u32) -> bool
+    requires { ⌜ over ≤ 65535 * 256 ⌝ }
+    ensures { λ r. ⌜ (r ≡ true → (k < length (now (contents .entry))) × (frame ≤ over + getD (now (contents .entry)) k 0)) ⌝ }
+{
+    if k < contents.len() {
+        wide(frame) <= over + wide(contents[k])
+    } else {
+        false
+    }
+}
+
+// The first frame that has a free slot, or the window's end; none before the given one has any.
+pub(crate) fn first_free(contents: &[u16], frame: u16, from: Reach) -> Reach
+    requires { ⌜ length (now contents) ≤ 256 ⌝ }
+    requires { ⌜ Starts frame (now contents) (from .at) (from .over) ⌝ }
+    ensures { λ r. ⌜ Starts frame (now (contents .entry)) (r .at) (r .over) ⌝ }
+{
+    let mut k = from.at;
+    let mut over = from.over;
+    while full(contents, frame, k, over) {
+        over = past(over + wide(contents[k]), frame);
+        k += 1;
+    }
+    Reach { at: k, over: over }
+}
 
 // A push stops before frame k: it passes the end of the window, or the frame's limit.
 fn stopped(limits: &[u16], k: usize, push: u32) -> bool
@@ -18,13 +47,20 @@ fn stopped(limits: &[u16], k: usize, push: u32) -> bool
     }
 }
 
-// The first frame of the window in which `size` slots more are lawful. Nothing is stored.
-pub(crate) fn first_lawful(contents: &[u16], limits: &[u16], frame: u16, size: u16) -> Found
+// The first frame of the window in which `size` slots more are lawful; none before the given one has a free slot. Nothing is stored.
+pub(crate) fn first_lawful(
+    contents: &[u16],
+    limits: &[u16],
+    frame: u16,
+    size: u16,
+    from: Reach,
+) -> Found
     requires { ⌜ (length (now limits) ≡ length (now contents)) × (length (now contents) ≤ 256) ⌝ }
+    requires { ⌜ Starts frame (now contents) (from .at) (from .over) ⌝ }
     ensures { λ r. ⌜ r ≡ first frame size 0 0 (now (contents .entry)) (now (limits .entry)) ⌝ }
 {
-    let mut over: u32 = 0;
-    let mut k: usize = 0;
+    let mut over = from.over;
+    let mut k = from.at;
     let found = 'frames: loop {
         if contents.len() <= k {
             break 'frames Found::Nowhere;

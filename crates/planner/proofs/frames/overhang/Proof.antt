@@ -1,25 +1,27 @@
 -- `planner::frames::overhang` meets its contract. Assumes nothing.
-use mathlib.Core.Path.{_≡_, refl, sym, ap, _∙_}
-use mathlib.Core.List.{List}
-use Prim.Native.Nat.{ℕ, _-_, _*_, _≤_}
+use mathlib.Core.Path.{_≡_}
+use mathlib.Core.Logic.{⊎-elim}
+use Prim.Native.Nat.{_-_, _≤_, _<_}
 use native.Mathlib.Omega.{arith}
-use lib.ListN.{length, take}
-use lib.Seq.{take-all}
-use Rattle.planner.specs.Cells as O
-use Rattle.planner.proofs.Runs.{over-next}
+use Rattle.planner.specs.Cells.{Reached}
+use Rattle.planner.proofs.Starts.{starts-front, reached-next}
 use borrow.Author.Needs.{needs}
 use Rattle.planner.proofs.frames.overhang.Statement.{statement}
 use Rattle.planner.proofs.frames.overhang.Tie as tie
 
 abbrev Inv-loop : tie.InvT-loop
-Inv-loop contents frame over₀ k₀ k-end over k = (k ≤ length contents) × (over ≤ 65535 * k) × (over ≡ O.over frame 0 (take k contents))
+Inv-loop contents frame k over₀ j₀ over j = (j ≤ k) × Reached frame contents j over
 
 abbrev μ-loop : tie.MeasureT-loop
-μ-loop contents frame over₀ k₀ k-end over k = length contents - k
+μ-loop contents frame k over₀ j₀ over j = k - j
 
 loop-holds : tie.Need-loop-holds Inv-loop μ-loop
-unfolding O.over
-loop-holds c = (omega arith, omega arith, refl)
+loop-holds c =
+    let s = c .before .before .before in
+    ⊎-elim
+    (λ u. (omega (arith, u .0 .taken, u .2), rw (u .1, u .2) (s .pre .1)))
+    (λ u. (omega (arith, u .2), rw (u .1, u .2) (starts-front (s .args .frame) (s .args .contents .now) .0)))
+    (c .if1 .came)
 
 mul-wide : tie.Need-mul-wide Inv-loop μ-loop
 mul-wide c = search needs
@@ -31,31 +33,33 @@ wide-requires : tie.Need-wide-requires Inv-loop μ-loop
 wide-requires c κs = search needs
 
 add-past : tie.Need-add-past Inv-loop μ-loop
-add-past c = omega arith
+add-past c = search needs
 
 past-requires : tie.Need-past-requires Inv-loop μ-loop
 past-requires c κs = search needs
 
-add-k : tie.Need-add-k Inv-loop μ-loop
-add-k c = search needs
+add-j : tie.Need-add-j Inv-loop μ-loop
+add-j c = search needs
 
 loop-less : tie.Need-loop-less Inv-loop μ-loop
 loop-less c = search needs
 
 loop-again : tie.Need-loop-again Inv-loop μ-loop
 loop-again c =
-    let v = c .before .before .before .before .loop in
-    let a = c .before .before .before .before .before .before .args in (
+    let v = c .before .before .before .before .before .before .loop in
+    let s = c .before .before .before .before .before .before .before .before .before .before in
+    let a = s .args in
+    let h : v .j < a .k = c .before .before .before .before .before .loop-test .taken in (
       omega arith,
-      omega (arith, c .past .ensures),
-      c .past .ensures ∙ rw (v .inv .2, c .before .wide .ensures .0) (sym (over-next (a .frame) (a .contents .now) (v .k) (omega arith))),
+      reached-next (a .frame) (a .contents .now) (v .j) (v .over) (omega (arith, s .pre .0)) (v .inv .1)
+          (c .before .before .wide .result) (c .past .result) (c .before .before .wide .ensures) (c .past .ensures),
     )
 
 returns : tie.Need-returns Inv-loop μ-loop
 returns c =
     let v = c .before .loop in
-    let a = c .before .before .before .args in
-    v .inv .2 ∙ ap (λ (l : List ℕ). O.over (a .frame) 0 l) (take-all (v .k) (a .contents .now) (omega arith))
+    let e : v .j ≡ c .before .before .before .before .before .args .k = omega (arith, v .inv .0) in
+    rw e at (v .inv .1)
 
 pub overhang-spec : {M : Type 1} → statement M
 overhang-spec =
@@ -69,7 +73,7 @@ overhang-spec =
     wide-requires
     add-past
     past-requires
-    add-k
+    add-j
     loop-less
     loop-again
     returns)

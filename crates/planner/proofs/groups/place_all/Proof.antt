@@ -13,7 +13,7 @@ use Rattle.planner.specs.Intervals.{from}
 use Rattle.planner.specs.Finished.{Housed}
 use Rattle.lists.proofs.Cycle.{frame-pos}
 use Rattle.planner.proofs.Bounds.{frames-le}
-use Rattle.planner.proofs.Reaching.{Reached, reached-start, ready-on, refused-on, next-on, reached-all, reached-end, to-come}
+use Rattle.planner.proofs.Reaching.{Upto, upto-start, ready-on, refused-on, next-on, upto-all, upto-end, to-come}
 use Rattle.planner.proofs.Housing.{housed-on}
 use borrow.Author.Needs.{needs}
 use Rattle.planner.proofs.groups.place_all.Statement.{statement}
@@ -22,7 +22,7 @@ use Rattle.planner.proofs.groups.place_all.Tie as tie
 abbrev Inv-loop : tie.InvT-loop
 Inv-loop list frame contents₀ limits₀ frames₀ bases₀ width₀ interval₀ contents limits frames bases width interval =
     (length contents ≡ 256) × (length limits ≡ 256) × (length frames ≡ length frames₀) × (length bases ≡ length bases₀)
-    × ((t : ℕ) × (is : List ℕ) × (hs : List (List Settled)) × Reached frame interval t width (flowsOf list) is hs contents limits frames bases × All (Housed frame list frames) is)
+    × ((t : ℕ) × (is : List ℕ) × (hs : List (List Settled)) × Upto frame interval t width (flowsOf list) is hs contents limits frames bases × All (Housed frame list frames) is)
 
 abbrev μ-loop : tie.MeasureT-loop
 μ-loop list frame contents₀ limits₀ frames₀ bases₀ width₀ interval₀ contents limits frames bases width interval = length (from (flowsOf list) interval)
@@ -50,7 +50,7 @@ loop-holds c =
         a .frame,
         [],
         [] ∷ [],
-        rw f (reached-start (flowsOf (a .list .now)) (a .contents .now) (a .limits .now) (a .frames .now) (a .bases .now) (s .pre .1 .0 .0) (ap (take 1) (s .pre .1 .1 .0)) (ap (take 1) (s .pre .1 .1 .1))),
+        rw f (upto-start (flowsOf (a .list .now)) (a .contents .now) (a .limits .now) (a .frames .now) (a .bases .now) (s .pre .1 .0 .0) (ap (take 1) (s .pre .1 .1 .0)) (ap (take 1) (s .pre .1 .1 .1))),
         tt,
       ),
     )
@@ -177,7 +177,7 @@ same-length-8 : tie.Need-same-length-8 Inv-loop μ-loop
 same-length-8 c = search needs
 
 returns-2 : tie.Need-returns-2 Inv-loop μ-loop
-returns-2 c = let r = c .before .loop .inv .4 in (reached-end (r .3) (c .loop-test .left), λ z. rw (sym (reached-all (r .3) (c .loop-test .left))) (r .4))
+returns-2 c = let r = c .before .loop .inv .4 in (upto-end (r .3) (c .loop-test .left), λ z. rw (sym (upto-all (r .3) (c .loop-test .left))) (r .4))
 
 pub place-all-spec : {M : Type 1} → statement M
 place-all-spec =

@@ -7,6 +7,7 @@ use mathlib.Core.Bool.{false}
 use mathlib.Core.Logic.{⊎-elim}
 use Rattle.planner.specs.Cells.{runs, opens, first}
 use Rattle.planner.proofs.Runs.{runs-out, runs-stop, runs-on, stops-in, opens-full, opens-room, first-here, first-later, first-none}
+use Rattle.planner.proofs.Starts.{first-from}
 use borrow.Author.Needs.{needs}
 use Rattle.planner.proofs.search.first_lawful.Statement.{statement}
 use Rattle.planner.proofs.search.first_lawful.Tie as tie
@@ -33,7 +34,10 @@ inside c =
     omega (arith, stops-in (a .limits .now) (v .next) (v .push) (sym (c .before .stopped .ensures) ∙ c .if4 .left))
 
 frames-holds : tie.Need-frames-holds Inv-loop μ-loop Inv-frames μ-frames
-frames-holds c = search needs
+frames-holds c =
+    let s = c .before .before in
+    let a = s .args in
+    (s .pre .1 .0 .0, s .pre .1 .0 .1, first-from (a .frame) (a .contents .now) (a .limits .now) (omega arith) (a .from .at) (a .from .over) (s .pre .1) (a .size))
 
 mul-wide : tie.Need-mul-wide Inv-loop μ-loop Inv-frames μ-frames
 mul-wide c = search needs
