@@ -14,4 +14,3 @@ pub mod Filled
 pub mod Coming
 pub mod Always
 pub mod First
-pub mod Sanity
