@@ -65,9 +65,9 @@ pub(crate) fn first_lawful(
         if contents.len() <= k {
             break 'frames Found::Nowhere;
         }
-        let filled = over + wide(contents[k]);
-        if filled < wide(frame) {
-            let mut push = past(filled + wide(size), frame);
+        let filled = over + contents[k] as u32;
+        if filled < frame as u32 {
+            let mut push = past(filled + size as u32, frame);
             let mut next = k + 1;
             loop {
                 if push == 0 {
@@ -76,7 +76,7 @@ pub(crate) fn first_lawful(
                 if stopped(limits, next, push) {
                     break;
                 }
-                push = past(push + wide(contents[next]), frame);
+                push = past(push + contents[next] as u32, frame);
                 next += 1;
             }
         }

@@ -2,7 +2,7 @@
 use mathlib.Core.Path.{_≡_, sym, _∙_}
 use Prim.Native.Nat.{_+_, _-_, _*_, _≤_, _<_}
 use native.Mathlib.Omega.{arith}
-use lib.ListN.{length, drop}
+use lib.ListN.{length, drop, getD}
 use mathlib.Core.Bool.{false}
 use mathlib.Core.Logic.{⊎-elim}
 use Rattle.planner.specs.Cells.{runs, opens, first}
@@ -27,11 +27,18 @@ abbrev μ-frames : tie.MeasureT-frames
 μ-frames contents limits frame size over₀ k₀ over k = length contents - k
 
 -- a push goes on only into a frame of the window
-inside : (c : tie.Else4 Inv-loop μ-loop Inv-frames μ-frames) → c .before .before .before .loop .next < length (c .before .before .before .before .before .before .before .before .before .before .before .before .before .before .args .contents .now)
+inside : (c : tie.Else4 Inv-loop μ-loop Inv-frames μ-frames) → c .before .before .before .loop .next < length (c .before .before .before .before .before .before .before .before .before .before .before .args .contents .now)
 inside c =
     let v = c .before .before .before .loop in
-    let a = c .before .before .before .before .before .before .before .before .before .before .before .before .before .before .args in
+    let a = c .before .before .before .before .before .before .before .before .before .before .before .args in
     omega (arith, stops-in (a .limits .now) (v .next) (v .push) (sym (c .before .stopped .ensures) ∙ c .if4 .left))
+
+-- the content of the frame that is tried, and of the one that a push goes into, is a number of 16 bits
+cell : (c : tie.After-shared-slice-known3 Inv-loop μ-loop Inv-frames μ-frames) → getD (c .before .before .before .before .before .args .contents .now) (c .before .before .frames .k) 0 < 65536
+cell c = omega (arith, c .shared-slice-known3 .given (c .before .before .frames .k))
+
+pushed : (c : tie.After-shared-slice-known4 Inv-loop μ-loop Inv-frames μ-frames) → getD (c .before .before .before .before .before .before .before .before .before .before .before .before .args .contents .now) (c .before .before .before .before .loop .next) 0 < 65536
+pushed c = omega (arith, c .shared-slice-known4 .given (c .before .before .before .before .loop .next))
 
 frames-holds : tie.Need-frames-holds Inv-loop μ-loop Inv-frames μ-frames
 frames-holds c =
@@ -39,23 +46,17 @@ frames-holds c =
     let a = s .args in
     (s .pre .1 .0 .0, s .pre .1 .0 .1, first-from (a .frame) (a .contents .now) (a .limits .now) (omega arith) (a .from .at) (a .from .over) (s .pre .1) (a .size))
 
-mul-wide : tie.Need-mul-wide Inv-loop μ-loop Inv-frames μ-frames
-mul-wide c = search needs
+mul-filled : tie.Need-mul-filled Inv-loop μ-loop Inv-frames μ-frames
+mul-filled c = search needs
 
-shared-slice-read-wide : tie.Need-shared-slice-read-wide Inv-loop μ-loop Inv-frames μ-frames
-shared-slice-read-wide c = search needs
+shared-slice-read-filled : tie.Need-shared-slice-read-filled Inv-loop μ-loop Inv-frames μ-frames
+shared-slice-read-filled c = search needs
 
-wide-requires : tie.Need-wide-requires Inv-loop μ-loop Inv-frames μ-frames
-wide-requires c κs = search needs
+cast-filled : tie.Need-cast-filled Inv-loop μ-loop Inv-frames μ-frames
+cast-filled c = omega (arith, cell c)
 
 add-filled : tie.Need-add-filled Inv-loop μ-loop Inv-frames μ-frames
-add-filled c = omega arith
-
-wide-requires-2 : tie.Need-wide-requires-2 Inv-loop μ-loop Inv-frames μ-frames
-wide-requires-2 c κs = search needs
-
-wide-requires-3 : tie.Need-wide-requires-3 Inv-loop μ-loop Inv-frames μ-frames
-wide-requires-3 c κs = search needs
+add-filled c = omega (arith, cell c)
 
 add-past : tie.Need-add-past Inv-loop μ-loop Inv-frames μ-frames
 add-past c = search needs
@@ -68,28 +69,28 @@ add-next c = search needs
 
 loop-holds : tie.Need-loop-holds Inv-loop μ-loop Inv-frames μ-frames
 loop-holds c =
-    let p = c .before .before .before .before .before .before .before in
+    let p = c .before .before .before .before in
     let a = p .before .before .before .args in (
       omega arith,
-      omega (arith, c .past .ensures, c .before .wide3 .ensures),
-      rw (c .past .ensures, c .before .wide3 .ensures .0, c .before .before .before .before .wide .ensures .0)
+      omega (arith, c .past .ensures, cell (c .before .before)),
+      rw (c .past .ensures)
           (sym (opens-room (a .contents .now) (a .limits .now) (omega arith) (a .frame) (p .frames .k) (omega arith) (a .size) (p .frames .over) (omega arith))),
     )
 
 stopped-requires : tie.Need-stopped-requires Inv-loop μ-loop Inv-frames μ-frames
 stopped-requires c κs = search needs
 
-mul-wide-2 : tie.Need-mul-wide-2 Inv-loop μ-loop Inv-frames μ-frames
-mul-wide-2 c = search needs
+mul-past : tie.Need-mul-past Inv-loop μ-loop Inv-frames μ-frames
+mul-past c = search needs
 
-shared-slice-read-wide-2 : tie.Need-shared-slice-read-wide-2 Inv-loop μ-loop Inv-frames μ-frames
-shared-slice-read-wide-2 c = omega (arith, inside (c .before))
+shared-slice-read-past : tie.Need-shared-slice-read-past Inv-loop μ-loop Inv-frames μ-frames
+shared-slice-read-past c = omega (arith, inside (c .before))
 
-wide-requires-4 : tie.Need-wide-requires-4 Inv-loop μ-loop Inv-frames μ-frames
-wide-requires-4 c κs = search needs
+cast-past : tie.Need-cast-past Inv-loop μ-loop Inv-frames μ-frames
+cast-past c = omega (arith, pushed c)
 
 add-past-2 : tie.Need-add-past-2 Inv-loop μ-loop Inv-frames μ-frames
-add-past-2 c = omega (arith, c .before .before .before .before .before .loop .inv)
+add-past-2 c = omega (arith, pushed c, c .before .before .before .before .loop .inv)
 
 past-requires-2 : tie.Need-past-requires-2 Inv-loop μ-loop Inv-frames μ-frames
 past-requires-2 c κs = search needs
@@ -98,17 +99,17 @@ add-next-2 : tie.Need-add-next-2 Inv-loop μ-loop Inv-frames μ-frames
 add-next-2 c = search needs
 
 loop-less : tie.Need-loop-less Inv-loop μ-loop Inv-frames μ-frames
-loop-less c = omega (arith, inside (c .before .before .before))
+loop-less c = omega (arith, inside (c .before .before))
 
 loop-again : tie.Need-loop-again Inv-loop μ-loop Inv-frames μ-frames
 loop-again c =
-    let g = c .before .before .before in
+    let g = c .before .before in
     let v = g .before .before .before .loop in
-    let p = g .before .before .before .before .before .before .before .before .before .before .before in
+    let p = g .before .before .before .before .before .before .before .before in
     let a = p .before .before .before .args in (
       omega (arith, inside g),
-      omega (arith, c .past2 .ensures, c .before .wide4 .ensures, v .inv),
-      rw (c .past2 .ensures, c .before .wide4 .ensures .0)
+      omega (arith, c .past2 .ensures, pushed (c .before), v .inv),
+      rw (c .past2 .ensures)
           (sym (runs-on (a .contents .now) (a .limits .now) (omega arith) (a .frame) (v .next) (v .push) (g .before .before .if3 .left) (sym (g .before .stopped .ensures) ∙ g .if4 .left))
           ∙ v .inv .2),
     )
@@ -125,21 +126,20 @@ frames-less c = search needs
 frames-again : tie.Need-frames-again Inv-loop μ-loop Inv-frames μ-frames
 frames-again c =
     let j = c .before in
-    let p = j .before .before .before .before .before in
+    let p = j .before .before .before in
     let a = p .before .before .before .args in
     let cs = a .contents .now in
     let ls = a .limits .now in
     let k = p .frames .k in
     let same : length ls ≡ length cs = omega arith in
-    let w = j .before .before .wide .ensures in
     let shut : opens (a .frame) (a .size) (p .frames .over) (drop k cs) (drop k ls) ≡ false =
     ⊎-elim
-    (λ u. sym (u .3 .inv .2) ∙ runs-stop cs ls same (a .frame) (u .3 .next) (u .3 .push) (u .4 .left) (sym (u .5 .ensures) ∙ u .6 .taken))
-    (λ u. opens-full cs ls same (a .frame) k (omega arith) (a .size) (p .frames .over) (omega (arith, u .left, j .before .wide2 .ensures)))
+    (λ u. sym (u .2 .inv .2) ∙ runs-stop cs ls same (a .frame) (u .2 .next) (u .2 .push) (u .3 .left) (sym (u .4 .ensures) ∙ u .5 .taken))
+    (λ u. opens-full cs ls same (a .frame) k (omega arith) (a .size) (p .frames .over) (omega (arith, u .left)))
     (j .if2 .came) in (
       omega arith,
-      omega (arith, c .past3 .ensures),
-      rw (c .past3 .ensures, w .0) (sym (first-later cs ls same (a .frame) k (omega arith) (a .size) (p .frames .over) k shut) ∙ p .frames .inv .2),
+      omega (arith, c .past3 .ensures, cell (j .before)),
+      rw (c .past3 .ensures) (sym (first-later cs ls same (a .frame) k (omega arith) (a .size) (p .frames .over) k shut) ∙ p .frames .inv .2),
     )
 
 returns : tie.Need-returns Inv-loop μ-loop Inv-frames μ-frames
@@ -151,7 +151,7 @@ returns c =
 returns-2 : tie.Need-returns-2 Inv-loop μ-loop Inv-frames μ-frames
 returns-2 c =
     let v = c .before .loop in
-    let p = c .before .before .before .before .before .before .before .before .before in
+    let p = c .before .before .before .before .before .before in
     let a = p .before .before .before .args in
     sym (first-here (a .contents .now) (a .limits .now) (omega arith) (a .frame) (p .frames .k) (omega arith) (a .size) (p .frames .over) (p .frames .k)
     (sym (v .inv .2) ∙ runs-out (a .frame) (v .push) (drop (v .next) (a .contents .now)) (drop (v .next) (a .limits .now)) (c .if3 .taken)))
@@ -166,20 +166,18 @@ first-lawful-spec =
     Inv-frames
     μ-frames
     frames-holds
-    mul-wide
-    shared-slice-read-wide
-    wide-requires
+    mul-filled
+    shared-slice-read-filled
+    cast-filled
     add-filled
-    wide-requires-2
-    wide-requires-3
     add-past
     past-requires
     add-next
     loop-holds
     stopped-requires
-    mul-wide-2
-    shared-slice-read-wide-2
-    wide-requires-4
+    mul-past
+    shared-slice-read-past
+    cast-past
     add-past-2
     past-requires-2
     add-next-2
