@@ -31,13 +31,6 @@ pub fn occupies(f: Flow) -> u16
     f.size
 }
 
-// The same number.
-fn wide(x: u16) -> u64
-    ensures { λ r. ⌜ (r ≡ x) × (r < 65536) ⌝ }
-{
-    x as u64
-}
-
 // The larger of the two.
 fn larger(a: u16, b: u16) -> u16
     ensures { λ r. ⌜ (r ≡ max a b) × (r < 65536) ⌝ }
@@ -94,8 +87,8 @@ fn totals_of(list: &[u8], cycle: u16) -> Totals
     let mut load: u64 = 0;
     for i in 0..n {
         let f = flow_at(list, i);
-        let k = wide(times(cycle, f.interval));
-        let s = wide(occupies(f));
+        let k = times(cycle, f.interval) as u64;
+        let s = occupies(f) as u64;
         grants = grants + k;
         load = load + s * k;
     }

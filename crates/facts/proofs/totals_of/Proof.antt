@@ -28,42 +28,34 @@ loop-holds : tie.Need-loop-holds Inv-loop μ-loop
 loop-holds c = (omega arith, sum-start _ 65535 _, sum-start _ (65535 * 65535) _)
 
 -- the flow that was read, its grants and its slots
-flow : (c : tie.After-wide2 Inv-loop μ-loop)
-    → let g = c .before .before .before .before in
+flow : (c : tie.After-occupies Inv-loop μ-loop)
+    → let g = c .before .before in
     g .flow-at .result ≡ getD (flowsOf (g .before .before .before .before .before .args .list .now)) (g .before .before .loop .i) noFlow
 flow c =
-    let g = c .before .before .before .before in
+    let g = c .before .before in
     let l = g .before .before .before .before .before .args .list .now in
     flow-is l (g .before .before .loop .i) (g .flow-at .result) (omega (arith, g .before .before .before .count .ensures .0)) (g .flow-at .ensures)
 
-grants-are : (c : tie.After-wide2 Inv-loop μ-loop)
-    → let g = c .before .before .before .before in
-    c .before .before .wide .result ≡ grantsOf (g .before .before .before .before .before .args .cycle) (g .flow-at .result)
-unfolding grantsOf
-grants-are c = c .before .before .wide .ensures .0 ∙ c .before .before .before .times .ensures
-
-slots-are : (c : tie.After-wide2 Inv-loop μ-loop) → c .wide2 .result ≡ occupies (c .before .before .before .before .flow-at .result)
-slots-are c = c .wide2 .ensures .0 ∙ c .before .occupies .ensures
-
-product : (c : tie.After-wide2 Inv-loop μ-loop) → c .wide2 .result * c .before .before .wide .result ≤ 65535 * 65535
-product c = product-le (c .wide2 .result) (c .before .before .wide .result) (c .wide2 .ensures .1) (c .before .before .wide .ensures .1)
+product : (c : tie.After-occupies Inv-loop μ-loop) → c .occupies .result * c .before .times .result ≤ 65535 * 65535
+product c = product-le (c .occupies .result) (c .before .times .result) (omega arith) (omega arith)
 
 -- one turn of both sums
-turn : (c : tie.After-wide2 Inv-loop μ-loop)
-    → let g = c .before .before .before .before in
+turn : (c : tie.After-occupies Inv-loop μ-loop)
+    → let g = c .before .before in
     let v = g .before .before .loop in
     let a = g .before .before .before .before .before .args in
-    SumAt (grantsOf (a .cycle)) 65535 (flowsOf (a .list .now)) (v .i + 1) (v .grants + c .before .before .wide .result)
-    × SumAt (λ f. occupies f * grantsOf (a .cycle) f) (65535 * 65535) (flowsOf (a .list .now)) (v .i + 1) (v .load + c .wide2 .result * c .before .before .wide .result)
+    SumAt (grantsOf (a .cycle)) 65535 (flowsOf (a .list .now)) (v .i + 1) (v .grants + c .before .times .result)
+    × SumAt (λ f. occupies f * grantsOf (a .cycle) f) (65535 * 65535) (flowsOf (a .list .now)) (v .i + 1) (v .load + c .occupies .result * c .before .times .result)
+unfolding grantsOf
 turn c =
-    let g = c .before .before .before .before in
+    let g = c .before .before in
     let v = g .before .before .loop in
     let a = g .before .before .before .before .before .args in
     let fs = flowsOf (a .list .now) in
     let h : v .i < length fs = omega (arith, g .before .before .before .count .ensures .0, length-flows (a .list .now)) in (
-      sum-next (grantsOf (a .cycle)) 65535 fs (v .i) (v .grants) _ h (grants-are c ∙ ap (grantsOf (a .cycle)) (flow c)) (omega (arith, c .before .before .wide .ensures .1)) (v .inv .1),
+      sum-next (grantsOf (a .cycle)) 65535 fs (v .i) (v .grants) _ h (c .before .times .ensures ∙ ap (grantsOf (a .cycle)) (flow c)) (omega arith) (v .inv .1),
       sum-next (λ f. occupies f * grantsOf (a .cycle) f) (65535 * 65535) fs (v .i) (v .load) _ h
-          (ap₂ _*_ (slots-are c) (grants-are c) ∙ ap (λ (f : Flow). occupies f * grantsOf (a .cycle) f) (flow c)) (product c) (v .inv .2),
+          (ap₂ _*_ (c .occupies .ensures) (c .before .times .ensures) ∙ ap (λ (f : Flow). occupies f * grantsOf (a .cycle) f) (flow c)) (product c) (v .inv .2),
     )
 
 flow-at-requires : tie.Need-flow-at-requires Inv-loop μ-loop
@@ -72,23 +64,23 @@ flow-at-requires c κs = search needs
 times-requires : tie.Need-times-requires Inv-loop μ-loop
 times-requires c κs = search needs
 
-wide-requires : tie.Need-wide-requires Inv-loop μ-loop
-wide-requires c κs = search needs
+cast-k : tie.Need-cast-k Inv-loop μ-loop
+cast-k c = search needs
 
 occupies-requires : tie.Need-occupies-requires Inv-loop μ-loop
 occupies-requires c κs = search needs
 
-wide-requires-2 : tie.Need-wide-requires-2 Inv-loop μ-loop
-wide-requires-2 c κs = search needs
+cast-s : tie.Need-cast-s Inv-loop μ-loop
+cast-s c = search needs
 
 add-grants : tie.Need-add-grants Inv-loop μ-loop
-add-grants c = record { fits = omega (arith, turn c .0 .1, c .before .before .before .before .before .before .before .count .ensures) }
+add-grants c = record { fits = omega (arith, turn c .0 .1, c .before .before .before .before .before .count .ensures) }
 
 mul-load : tie.Need-mul-load Inv-loop μ-loop
 mul-load c = record { fits = omega (arith, product c) }
 
 add-load : tie.Need-add-load Inv-loop μ-loop
-add-load c = record { fits = omega (arith, turn c .1 .1, c .before .before .before .before .before .before .before .count .ensures) }
+add-load c = record { fits = omega (arith, turn c .1 .1, c .before .before .before .before .before .count .ensures) }
 
 add-i : tie.Need-add-i Inv-loop μ-loop
 add-i c = search needs
@@ -119,9 +111,9 @@ totals-of-spec =
     loop-holds
     flow-at-requires
     times-requires
-    wide-requires
+    cast-k
     occupies-requires
-    wide-requires-2
+    cast-s
     add-grants
     mul-load
     add-load
