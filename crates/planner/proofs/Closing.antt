@@ -1,7 +1,7 @@
 -- A group from its window window to its end. Assumes nothing.
 use mathlib.Core.Path.{_≡_, refl, sym, ap, ap₂, _∙_}
 use mathlib.Core.List.{List, []}
-use Prim.Native.Nat.{ℕ, zero, suc, _*_, _/_, _≤_, _<_}
+use Prim.Native.Nat.{ℕ, _*_, _/_, _≤_, _<_}
 use native.Mathlib.Omega.{arith}
 use lib.ListN.{length, take}
 use lib.Seq.{length-take-le}
@@ -13,16 +13,12 @@ use Rattle.planner.specs.Cells.{over}
 use Rattle.planner.specs.Cells.{Laid, laidOf, groupCells, Ended, endedOf, endCells}
 use Rattle.planner.specs.State.{Opened, Closed, Added}
 use Rattle.planner.proofs.Copies.{length-rep}
+use Rattle.planner.proofs.Growing.{narrow}
 use Rattle.planner.proofs.Limits.{lawful-over}
 use Rattle.planner.proofs.Grouping.{Placed-as, group-is, Inside, cells-inside, length-contents, length-olds}
 use Rattle.planner.proofs.Settling.{ended-is}
 use Rattle.planner.proofs.Layouts.{opened-is, standing-rep}
 use Rattle.placing.proofs.Layouts.{opened-olds, opened-length}
-
--- one copy is no longer than the whole
-pub narrow : (r w n : ℕ) → n ≡ r * w → 0 < r → w ≤ n
-narrow zero w n e h = absurd (omega arith)
-narrow (suc r) w n e h = omega arith
 
 module _ {φ i w : ℕ} {fs : List Flow} {is : List ℕ} {hs : List (List Settled)} {cs ls ks bs : List ℕ} (O : Opened φ i w fs is hs cs ls ks bs)
     (many : length fs ≤ length ks) (many′ : length fs ≤ length bs) where

@@ -103,7 +103,7 @@ firstLawful-lawful φ s j o k (c ∷ cs) (h ∷ hs) l e =
 
 -- ---- members and grants when a flow's frame is set
 
-pub keep-append : {A : Type 0} (b : Bool) (x : A) (xs ys : List A) → keep b x (xs ++ ys) ≡ keep b x xs ++ ys
+keep-append : {A : Type 0} (b : Bool) (x : A) (xs ys : List A) → keep b x (xs ++ ys) ≡ keep b x xs ++ ys
 unfolding keep
 keep-append true x xs ys = refl
 keep-append false x xs ys = refl

@@ -22,7 +22,7 @@ use Rattle.planner.specs.State.{Agrees, Before}
 use Rattle.planner.proofs.Settling.{standing-again}
 
 -- the entry at m of a list over and over
-rep-at : {A : Type 0} (xs : List A) (r m : ℕ) (d : A) → 0 < length xs → m < r * length xs → getD (rep r xs) m d ≡ getD xs (m % length xs) d
+pub rep-at : {A : Type 0} (xs : List A) (r m : ℕ) (d : A) → 0 < length xs → m < r * length xs → getD (rep r xs) m d ≡ getD xs (m % length xs) d
 unfolding rep
 rep-at xs zero m d z h = absurd (omega arith)
 rep-at xs (suc r) m d z h =

@@ -4,30 +4,20 @@ use mathlib.Core.List.{List, [], _∷_, _++_}
 use Prim.Native.Nat.{ℕ, suc, _+_, _*_, _≤_, _<_}
 use native.Mathlib.Omega.{arith}
 use lib.Dec.{lit<}
-use lib.ListN.{length, take, drop, length-drop}
-use lib.Seq.{sets, length-sets, drop-drop}
+use lib.ListN.{length, drop}
+use lib.Seq.{sets, length-sets}
 use Rattle.logic.specs.Lists.{All}
-use Rattle.logic.proofs.Rooms.{sets-append, sets-front, sets-between}
-use Rattle.fields.specs.declared.kind.Kind.{Kind}
+use Rattle.logic.proofs.Rooms.{sets-append, sets-front}
 use Rattle.fields.specs.declared.kind.Kind.the-variants.{TableHead, TableRecord}
-use Rattle.fields.specs.Packed.{Fit}
-use Rattle.fields.specs.Kinds.{widths, bytes}
+use Rattle.fields.specs.Kinds.{widths}
 use Rattle.fields.specs.Records.{packed, roomAfter}
 use Rattle.fields.proofs.Packed.{fit-fits}
-use Rattle.fields.proofs.Records.{ends-done, length-packed}
+use Rattle.fields.proofs.Records.{length-packed}
 use Rattle.tables.specs.declared.packed.Grant.{Grant}
 use Rattle.tables.specs.Tables.{headFields, head, place, fieldsOf, records, tableOf, recordAfter}
 use Rattle.tables.proofs.Meaning.{Fits, length-table}
 use Rattle.planner.specs.Rows.{written}
-
--- a record of which the values fit, at a place of the room
-put-at : (kind : Kind) (at : ℕ) (vs room : List ℕ) → Fit (widths kind) vs → at + bytes kind ≤ length room
-    → take at room ++ roomAfter kind vs (drop at room) ≡ sets room at (packed kind vs)
-put-at kind at vs room f h =
-    ap (λ (x : List ℕ). take at room ++ x)
-    (sym (ends-done kind vs (drop at room) (fit-fits (widths kind) vs f) (simp length-drop (omega arith)) .1)
-    ∙ ap (λ (x : List ℕ). packed kind vs ++ x) (drop-drop (bytes kind) at room))
-    ∙ sets-between (packed kind vs) room at (bytes kind) (length-packed kind vs) h
+use Rattle.planner.proofs.Writing.{put-at}
 
 -- the records of grants that fit them, the first of them as record i
 records-written : (i : ℕ) (gs : List Grant) (room : List ℕ) → All Fits gs → place i + 5 * length gs ≤ length room → written i gs room ≡ sets room (place i) (records gs)
@@ -37,7 +27,7 @@ records-written i (g ∷ gs) room f h =
     let p = packed TableRecord (fieldsOf g) in
     let k = f .0 in
     let e : recordAfter g i room ≡ sets room (place i) p =
-    put-at TableRecord (place i) (fieldsOf g) room (k .flow-lt, (k .start-lt, (k .late-lt, (lit< tt, (lit< tt, (lit< tt, tt)))))) (omega arith) in
+    put-at TableRecord (place i) (fieldsOf g) room (fit-fits (widths TableRecord) (fieldsOf g) (k .flow-lt, (k .start-lt, (k .late-lt, (lit< tt, (lit< tt, (lit< tt, tt))))))) (omega arith) in
     let next : place (suc i) ≡ place i + length p = omega (arith, length-packed TableRecord (fieldsOf g)) in
     ap (written (suc i) gs) e
     ∙ records-written (suc i) gs (sets room (place i) p) (f .1) (omega (arith, length-sets room (place i) p))
@@ -51,7 +41,7 @@ unfolding tableOf head
 table-written c φ gs room f n x y h =
     let t = head (length gs) c φ in
     let e : roomAfter TableHead (headFields (length gs) c φ) room ≡ sets room 0 t =
-    put-at TableHead 0 (headFields (length gs) c φ) room (lit< tt, (lit< tt, (lit< tt, (n, (x, (y, tt)))))) (omega arith) in
+    put-at TableHead 0 (headFields (length gs) c φ) room (fit-fits (widths TableHead) (headFields (length gs) c φ) (lit< tt, (lit< tt, (lit< tt, (n, (x, (y, tt))))))) (omega arith) in
     let eight : 8 ≡ 0 + length t = omega (arith, length-packed TableHead (headFields (length gs) c φ)) in
     ap (written 0 gs) e
     ∙ records-written 0 gs (sets room 0 t) f (omega (arith, length-sets room 0 t))

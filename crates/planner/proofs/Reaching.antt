@@ -1,9 +1,8 @@
 -- From group to group. Assumes nothing.
 use mathlib.Core.Path.{_≡_, refl, sym, ap, _∙_}
 use mathlib.Core.Bool.{true}
-use mathlib.Core.List.{List, [], _∷_, _++_, append-assoc, append-nil}
-use Prim.Native.Nat.{ℕ, zero, suc, _+_, _-_, _*_, _/_, _∣_, _≤_, _<_}
-use native.Mathlib.Nat.{dvd-refl, dvd-trans, dvd-mul-left, div-mul-cancel, div-eq-of-eq-mul-left}
+use mathlib.Core.List.{List, [], _∷_, _++_}
+use Prim.Native.Nat.{ℕ, zero, suc, _+_, _-_, _*_, _/_, _≤_, _<_}
 use native.Mathlib.Omega.{arith}
 use lib.ListN.{length, getD, take, drop}
 use lib.Seq.{length-take-le, take-take, take-at}
@@ -11,33 +10,25 @@ use Rattle.logic.specs.Lists.{sum}
 use Rattle.flows.specs.declared.flow.Flow.{Flow}
 use Rattle.planner.specs.declared.placed.Placed.{Placed}
 use Rattle.planner.specs.declared.placed.Placed.the-variants.{Lawful, NoFrame}
-use Rattle.lists.specs.Facts.{cycle, frame}
-use Rattle.placing.specs.Rule.{Outcome, done, refused, Settled, Frame, weight, within, lawful, group, rep, opened, settle, groups, present, intervals, layout}
+use Rattle.lists.specs.Facts.{frame}
+use Rattle.placing.specs.Rule.{Outcome, done, refused, Settled, Frame, weight, within, lawful, group, rep, opened, settle, groups, layout}
 use Rattle.planner.specs.Cells.{loads}
 use Rattle.planner.specs.Intervals.{nextInterval, from}
 use Rattle.planner.specs.Cells.{free, limit, limits, standing}
-use Rattle.planner.specs.State.{Agrees, Before, Opened, Closed, Ready, Added}
+use Rattle.planner.specs.State.{Agrees, Opened, Closed, Ready, Added}
 use Rattle.planner.specs.Finished.{Finished}
 use Rattle.lists.specs.Accepted.{Accepted}
-use Rattle.lists.proofs.Cycle.{frame-pos}
-use Rattle.planner.proofs.Bounds.{timed, frame-present, small, interval-le, frames-le, divides}
-use Rattle.logic.proofs.Tests.{by-lt}
+use Rattle.planner.proofs.Bounds.{small, interval-le, frames-le}
 use Rattle.placing.proofs.Layouts.{settle-length}
-use Rattle.planner.proofs.Closing.{narrow}
-use Rattle.planner.proofs.Rising.{from-none, from-next, intervals-from, next-present, next-none, present-le}
+use Rattle.planner.proofs.Growing.{Grown, grown-start, times-positive, window-frames, window-slots, window-fits, to-come, grown-next, grown-all}
+use Rattle.planner.proofs.Rising.{from-none}
 
--- the groups below interval i (0: all) are placed, in windows of t slots
+-- the groups before that of interval i (0: all) are placed, in a window of t slots
 pub record Upto (φ i t w : ℕ) (fs : List Flow) (is : List ℕ) (hs : List (List Settled)) (cs ls ks bs : List ℕ) : Type 0 where
   pub agrees : Agrees φ fs is hs (take w cs) (take w ls) ks bs
   pub wide : length hs ≡ w
-  pub some : 0 < w
-  pub slots : w * φ ≡ t
-  pub low : t ≤ 4096
-  pub most : w ≤ 256
-  pub next : (i ≡ 0 → ⊥) → (t ∣ i) × (present i fs ≡ true) × Before φ i w is
-  pub end : i ≡ 0 → t ≡ cycle fs
+  pub grown : Grown φ i t w fs is
   pub rest : groups φ fs t hs (from fs i) ≡ layout fs
-  pub order : is ++ from fs i ≡ intervals fs
 
 -- ---- the start: one empty frame
 
@@ -52,53 +43,20 @@ upto-start fs cs ls ks bs A ec el =
     record {
       agrees = record { content = ec; limit = el; law = empty-lawful (frame fs); stand = λ m h. single m h };
       wide = refl;
-      some = omega arith;
-      slots = omega arith;
-      low = interval-le fs A (frame fs) (frame-present fs A);
-      most = omega arith;
-      next = λ n. (dvd-refl (frame fs), frame-present fs A, tt);
-      end = λ z. absurd (omega (arith, frame-pos fs A));
-      rest = ap (groups (frame fs) fs (frame fs) ([] ∷ [])) (sym begins);
-      order = sym begins;
+      grown = grown-start fs A;
+      rest = ap (groups (frame fs) fs (frame fs) ([] ∷ [])) (grown-start fs A .order);
     }
   where
-    begins : intervals fs ≡ from fs (frame fs)
-    begins = intervals-from fs (A .filled) (timed fs A)
-
     single : (m : ℕ) → m < 1 → getD {A = List Settled} ([] ∷ []) m [] ≡ []
     single zero h = refl
     single (suc m) h = absurd (omega arith)
-
--- ---- the numbers of a window
-
-module _ (φ i t w : ℕ) (n : i ≡ 0 → ⊥) (slots : w * φ ≡ t) (d : t ∣ i) where
-  whole : i ≡ i / t * w * φ
-  whole = sym (div-mul-cancel t d) ∙ rw (sym slots) (omega arith)
-
-  frame-positive : 0 < φ
-  frame-positive = by-lt 0 φ (λ h. h) (λ h. let z : φ ≡ 0 = omega arith in absurd (n (whole ∙ rw z (omega arith))))
-
-  times-positive : 0 < i / t
-  times-positive = by-lt 0 (i / t) (λ h. h) (λ h. let z : i / t ≡ 0 = omega arith in absurd (n (whole ∙ rw z (omega arith))))
-
-  window-frames : i / φ ≡ i / t * w
-  window-frames = div-eq-of-eq-mul-left frame-positive whole
-
-  window-slots : i / φ * φ ≡ i
-  window-slots = rw window-frames (sym whole)
 
 -- ---- the window of the next group
 
 module _ {φ i t w : ℕ} {fs : List Flow} {is : List ℕ} {hs : List (List Settled)} {cs ls ks bs : List ℕ} (A : Accepted fs)
     (R : Upto φ i t w fs is hs cs ls ks bs) (n : i ≡ 0 → ⊥) where
-  abbrev next : (t ∣ i) × (present i fs ≡ true) × Before φ i w is
-  next = R .next n
-
-  fills : i / φ ≡ i / t * w
-  fills = window-frames φ i t w n (R .slots) (next .0)
-
-  enough : w ≤ i / φ
-  enough = narrow (i / t) w (i / φ) fills (times-positive φ i t w n (R .slots) (next .0))
+  abbrev G : Grown φ i t w fs is
+  G = R .grown
 
   unfoldable upto-opens : φ ≡ frame fs → i / φ ≤ length cs → i / φ ≤ length ls → Opened φ i w fs is hs (take (i / φ) cs) (take (i / φ) ls) ks bs
   upto-opens f c l =
@@ -106,33 +64,29 @@ module _ {φ i t w : ℕ} {fs : List Flow} {is : List ℕ} {hs : List (List Sett
       let many : length (take (i / φ) cs) ≡ i / φ = length-take-le (i / φ) cs c in
       record {
         agrees = record {
-          content = take-take w (i / φ) cs enough ∙ S .content;
-          limit = take-take w (i / φ) ls enough ∙ S .limit;
+          content = take-take w (i / φ) cs (window-fits A G n) ∙ S .content;
+          limit = take-take w (i / φ) ls (window-fits A G n) ∙ S .limit;
           law = S .law;
           stand = S .stand;
         };
         wide = R .wide;
-        some = R .some;
+        some = G .some;
         times = i / t;
-        whole = many ∙ fills;
-        positive = times-positive φ i t w n (R .slots) (next .0);
-        before = next .2;
+        whole = many ∙ window-frames A G n;
+        positive = times-positive A G n;
+        before = G .next n .2;
         frames = many;
-        slots = ap (λ (x : ℕ). x * φ) many ∙ window-slots φ i t w n (R .slots) (next .0);
-        most = omega (arith, rw (sym f) at (frames-le fs A i (next .1)));
+        slots = ap (λ (x : ℕ). x * φ) many ∙ window-slots A G n;
+        most = omega (arith, rw (sym f) at (frames-le fs A i (G .next n .1)));
         same = length-take-le (i / φ) ls l ∙ sym many;
-        low = interval-le fs A i (next .1);
+        low = interval-le fs A i (G .next n .1);
         small = small fs A;
       }
-
-  -- the intervals still to come
-  pub to-come : from fs i ≡ i ∷ from fs (nextInterval i 0 fs)
-  to-come = from-next fs i n (next .1)
 
   layout-on : (r : Outcome (List Frame)) → group φ i 1 (opened (rep (i / t) hs)) fs ≡ r
       → layout fs ≡ elim r [ done L ↦ groups φ fs i (settle φ 0 L) (from fs (nextInterval i 0 fs)) | refused p ↦ refused p ]
   unfolding groups
-  layout-on r e = sym (R .rest) ∙ rw to-come (rw (e, groups))
+  layout-on r e = sym (R .rest) ∙ rw (to-come A G n) (rw (e, groups))
 
   -- a refusal is the list's
   upto-refused : (p : ℕ) (ds ms ns es : List ℕ) → Closed φ i fs is (group φ i 1 (opened (rep (i / t) hs)) fs) (NoFrame p) ds ms ns es → layout fs ≡ refused p
@@ -143,10 +97,6 @@ module _ {φ i t w : ℕ} {fs : List Flow} {is : List ℕ} {hs : List (List Sett
       go (done L) e h = let z : NoFrame p ≡ Lawful = h .0 in let y : _≡_ {A = ℕ} 0 1 = cc in absurd (omega arith)
 
   -- a group that stands leads to the next
-  before-on : (j v : ℕ) (ns : List ℕ) → i < j → w ∣ v → i / φ ∣ v → Before φ i w ns → Before φ j v (ns ++ (i ∷ []))
-  before-on j v [] l d e b = (l, e, tt)
-  before-on j v (x ∷ ns) l d e b = (omega arith, dvd-trans (x / φ) (b .1) d, before-on j v ns l d e (b .2))
-
   upto-next : φ ≡ frame fs → (ds ms ns es : List ℕ) → Closed φ i fs is (group φ i 1 (opened (rep (i / t) hs)) fs) Lawful (take (i / φ) ds) (take (i / φ) ms) ns es
       → (gs : List (List Settled)) × Upto φ (nextInterval i 0 fs) i (i / φ) fs (is ++ (i ∷ [])) gs ds ms ns es
   upto-next f ds ms ns es = go (group φ i 1 (opened (rep (i / t) hs)) fs) refl
@@ -159,19 +109,8 @@ module _ {φ i t w : ℕ} {fs : List Flow} {is : List ℕ} {hs : List (List Sett
         record {
           agrees = h .1;
           wide = settle-length φ 0 L ∙ h .2;
-          some = omega (arith, enough, R .some);
-          slots = window-slots φ i t w n (R .slots) (next .0);
-          low = interval-le fs A i (next .1);
-          most = rw (sym f) at (frames-le fs A i (next .1));
-          next = λ z.
-              let p = next-present i fs z in (
-                divides fs A i (next .1) (nextInterval i 0 fs) (p .1) (omega (arith, p .0)),
-                p .1,
-                before-on (nextInterval i 0 fs) (i / φ) is (p .0) (rw fills (dvd-mul-left w (i / t))) (dvd-refl (i / φ)) (next .2),
-              );
-          end = λ z. omega (arith, next-none i 0 fs z, present-le i fs (next .1));
+          grown = grown-next A G n f;
           rest = sym (layout-on (done L) e);
-          order = append-assoc is (i ∷ []) (from fs (nextInterval i 0 fs)) ∙ ap (λ (l : List ℕ). is ++ l) (sym to-come) ∙ R .order;
         },
       )
 
@@ -201,11 +140,8 @@ module _ {φ i t w : ℕ} {fs : List Flow} {is : List ℕ} {hs : List (List Sett
 -- ---- the end
 
 module _ {φ i t w : ℕ} {fs : List Flow} {is : List ℕ} {hs : List (List Settled)} {cs ls ks bs : List ℕ} (R : Upto φ i t w fs is hs cs ls ks bs) (z : i ≡ 0) where
-  pub upto-all : is ≡ intervals fs
-  upto-all = sym (append-nil is) ∙ rw (sym (from-none fs i z)) (R .order)
-
   pub upto-end : Finished φ fs (layout fs) Lawful cs ls ks bs
   unfolding groups
   upto-end =
       let l : layout fs ≡ done hs = sym (R .rest) ∙ rw (from-none fs i z) in
-      rw l (refl, rw (R .wide, sym upto-all) (R .agrees), rw (R .wide) (R .slots ∙ R .end z), rw (R .wide) (R .most))
+      rw l (refl, rw (R .wide, sym (grown-all (R .grown) z)) (R .agrees), rw (R .wide) (R .grown .slots ∙ R .grown .end z), rw (R .wide) (R .grown .most))

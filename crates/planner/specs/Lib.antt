@@ -3,5 +3,5 @@ pub mod State
 pub mod Intervals
 pub mod Finished
 pub mod Rows
-pub mod Order
+pub mod Links
 pub mod Plan

@@ -7,7 +7,7 @@ mod frames;
 mod grants;
 mod groups;
 mod intervals;
-mod order;
+mod links;
 mod placed;
 mod planning;
 mod search;

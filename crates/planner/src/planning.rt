@@ -48,7 +48,7 @@ fn place_and_write(list: &[u8], facts: Facts, room: &mut [u8]) -> Written
         list,
         frame,
         &contents[0..width],
-        &frames,
+        &mut frames,
         &bases,
         &mut limits,
         room,

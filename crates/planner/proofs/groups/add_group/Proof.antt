@@ -5,7 +5,8 @@ use native.Mathlib.Omega.{arith}
 use lib.ListN.{length}
 use Rattle.lists.proofs.Records.{length-flows}
 use Rattle.lists.specs.Lists.{flowsOf}
-use Rattle.planner.proofs.Closing.{Leaves, narrow, left-inside, left-low, added-refused, added-all}
+use Rattle.planner.proofs.Closing.{Leaves, left-inside, left-low, added-refused, added-all}
+use Rattle.planner.proofs.Growing.{narrow}
 use Rattle.planner.proofs.Turns.{inside-at}
 use Rattle.planner.proofs.Housing.{taken}
 use borrow.Author.Needs.{needs}

@@ -13,7 +13,8 @@ use Rattle.planner.specs.Intervals.{from}
 use Rattle.planner.specs.Finished.{Housed}
 use Rattle.lists.proofs.Cycle.{frame-pos}
 use Rattle.planner.proofs.Bounds.{frames-le}
-use Rattle.planner.proofs.Reaching.{Upto, upto-start, ready-on, refused-on, next-on, upto-all, upto-end, to-come}
+use Rattle.planner.proofs.Growing.{to-come, grown-all}
+use Rattle.planner.proofs.Reaching.{Upto, upto-start, ready-on, refused-on, next-on, upto-end}
 use Rattle.planner.proofs.Housing.{housed-on}
 use borrow.Author.Needs.{needs}
 use Rattle.planner.proofs.groups.place_all.Statement.{statement}
@@ -35,7 +36,7 @@ fits : (c : tie.In-loop Inv-loop μ-loop) → c .before .loop .interval / start 
 fits c =
     let s = start (c .before) in
     let v = c .before .loop in
-    rw (s .pre .1 .0 .1) (frames-le (flowsOf (s .args .list .now)) (s .pre .1 .0 .0) (v .interval) (v .inv .4 .3 .next (c .loop-test .taken) .1))
+    rw (s .pre .1 .0 .1) (frames-le (flowsOf (s .args .list .now)) (s .pre .1 .0 .0) (v .interval) (v .inv .4 .3 .grown .next (c .loop-test .taken) .1))
 
 loop-holds : tie.Need-loop-holds Inv-loop μ-loop
 loop-holds c =
@@ -136,7 +137,7 @@ loop-less : tie.Need-loop-less Inv-loop μ-loop
 loop-less c =
     let inner = c .before .before .before .before .before .before .before .before .before .before .before .before .before .before .before .before in
     let v = inner .before .loop in
-    rw (c .next-interval .ensures) (omega (arith, ap length (to-come (start (inner .before) .pre .1 .0 .0) (v .inv .4 .3) (inner .loop-test .taken))))
+    rw (c .next-interval .ensures) (omega (arith, ap length (to-come (start (inner .before) .pre .1 .0 .0) (v .inv .4 .3 .grown) (inner .loop-test .taken))))
 
 loop-again : tie.Need-loop-again Inv-loop μ-loop
 loop-again c =
@@ -160,7 +161,7 @@ loop-again c =
         v .inv .4 .1 ++ (v .interval ∷ []),
         on .0,
         rw (c .next-interval .ensures) (on .1),
-        housed-on (s .args .frame) (v .width) (v .interval) (s .args .list .now) (v .frames) (g .add-group .last .1 .1 .1 .1 .1 .1 .0) (v .inv .4 .1) (v .inv .4 .3 .next (g .before .before .before .before .before .loop-test .taken) .2) (v .inv .4 .4) k (g .add-group .ensures .1 (c .before .enum-told .given .1)),
+        housed-on (s .args .frame) (v .width) (v .interval) (s .args .list .now) (v .frames) (g .add-group .last .1 .1 .1 .1 .1 .1 .0) (v .inv .4 .1) (v .inv .4 .3 .grown .next (g .before .before .before .before .before .loop-test .taken) .2) (v .inv .4 .4) k (g .add-group .ensures .1 (c .before .enum-told .given .1)),
       ),
     )
 
@@ -177,7 +178,7 @@ same-length-8 : tie.Need-same-length-8 Inv-loop μ-loop
 same-length-8 c = search needs
 
 returns-2 : tie.Need-returns-2 Inv-loop μ-loop
-returns-2 c = let r = c .before .loop .inv .4 in (upto-end (r .3) (c .loop-test .left), λ z. rw (sym (upto-all (r .3) (c .loop-test .left))) (r .4))
+returns-2 c = let r = c .before .loop .inv .4 in (upto-end (r .3) (c .loop-test .left), λ z. rw (sym (grown-all (r .3 .grown) (c .loop-test .left))) (r .4))
 
 pub place-all-spec : {M : Type 1} → statement M
 place-all-spec =

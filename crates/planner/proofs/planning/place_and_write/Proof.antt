@@ -115,31 +115,30 @@ write-grants-requires c κs =
     let p = placed d in
     let s = start p in
     let e = p .before .before .before .before .before .before .before .before .before .empty .ensures in
-    let n = length-flows (s .args .list .now) in
-    let few = s .pre .0 .few in
     let k = p .place-all .kept in
     let S = standing d in (
       (
-        omega (arith, k .1 .1 .1 .1 .0, ap length (e .1 .0), few),
-        omega (arith, k .1 .1 .1 .0, ap length (e .0 .1), few),
+        omega (arith, k .1 .1 .1 .1 .0, ap length (e .1 .0)),
+        omega (arith, k .1 .1 .1 .0, ap length (e .0 .1)),
         omega (arith, k .1 .1 .1 .1 .1 .0, ap length (e .1 .1)),
         omega (arith, length-take (s .args .facts .cycle / s .args .facts .frame - 0) (p .place-all .last .1 .1 .0), frames s),
+        omega (arith, length-take (s .args .facts .cycle / s .args .facts .frame - 0) (p .place-all .last .1 .1 .0), ap (λ (x : ℕ). x / s .args .facts .frame) (facts s .0)),
       ),
       ((s .pre .0, facts s .1), (p .place-all .ensures .1 (d .enum-told .given .1), (S .settled, S .tabled))),
     )
 
 mul-t42 : tie.Need-mul-t42
-mul-t42 c = omega (arith, grants-fit (c .before .before .before .before .before .before .before .before .before .before .before .before .before .before))
+mul-t42 c = omega (arith, grants-fit (c .before .before .before .before .before .before .before .before .before .before .before .before .before .before .before))
 
 add-t43 : tie.Need-add-t43
-add-t43 c = omega (arith, grants-fit (c .before .before .before .before .before .before .before .before .before .before .before .before .before .before))
+add-t43 c = omega (arith, grants-fit (c .before .before .before .before .before .before .before .before .before .before .before .before .before .before .before))
 
 same-length : tie.Need-same-length
 same-length c = search needs
 
 returns-2 : tie.Need-returns-2
 returns-2 c =
-    let w = c .before .before .before in
+    let w = c .before .before .before .before in
     let h = w .before .before .before .before .before .before .before .before .before in
     let d = h .before .before in
     let p = placed d .place-all in
