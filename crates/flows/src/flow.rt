@@ -1,5 +1,6 @@
 // A flow and its rule.
 ghost use mathlib.Core.Path.{_≡_};
+ghost use Rattle.logic.specs.Numbers.{among};
 ghost use Rattle.flows.specs.Flows.{rule};
 
 // A flow: its number, and in slots its size, its interval and the jitter that it tolerates.
@@ -16,6 +17,13 @@ pub enum Rule {
     Broken,
 }
 
+// x is at least `low` and at most `high`.
+fn among(low: u16, high: u16, x: u16) -> bool
+    ensures { λ r. ⌜ r ≡ among low high x ⌝ }
+{
+    low <= x && x <= high
+}
+
 impl Flow {
     // What is read where there is no record: zeros, which break the rule.
     pub const NONE: Flow = Flow {
@@ -29,28 +37,17 @@ impl Flow {
     pub fn rule(self) -> Rule
         ensures { λ r. ⌜ r ≡ rule self ⌝ }
     {
-        let number = self.number;
-        let size = self.size;
         let interval = self.interval;
-        if number < 1 {
+        if !among(1, 1023, self.number) {
             return Rule::Broken;
         }
-        if 1023 < number {
+        if !among(1, 4095, self.size) {
             return Rule::Broken;
         }
-        if size < 1 {
+        if !among(1, 4096, interval) {
             return Rule::Broken;
         }
-        if 4095 < size {
-            return Rule::Broken;
-        }
-        if interval < 1 {
-            return Rule::Broken;
-        }
-        if 4096 < interval {
-            return Rule::Broken;
-        }
-        if interval < size {
+        if interval < self.size {
             return Rule::Broken;
         }
         if interval <= self.jitter {

@@ -1,58 +1,67 @@
 -- `flows::flow::Flow::rule` meets its contract: each test that finds fault contradicts the rule.
 -- Assumes nothing.
+use mathlib.Core.Path.{_≡_, sym, _∙_}
+use mathlib.Core.Bool.{Bool, true, false, not}
+use Prim.Native.Nat.{ℕ, _≤_}
 use native.Mathlib.Omega.{arith}
+use borrow.Author.Tests.{le-leb, not-true, not-false}
+use borrow.Author.Needs.{needs}
+use Rattle.logic.specs.Numbers.{among}
+use Rattle.logic.proofs.Tests.{true-not-false, among-both}
 use Rattle.flows.proofs.Flows.{rule-kept, rule-broken}
 use Rattle.flows.proofs.flow.Flow.rule.Statement.{statement}
 use Rattle.flows.proofs.flow.Flow.rule.Tie as tie
 
+-- what `among` said of a number that is in its range, and of one that may be
+outside : (a b x : ℕ) (r : Bool) → r ≡ among a b x → not r ≡ true → a ≤ x → x ≤ b → ⊥
+outside a b x r e n l h = let t : among a b x ≡ true = rw (le-leb a x l, le-leb x b h) in true-not-false (sym t ∙ sym e ∙ not-true r n)
+
+inside : (a b x : ℕ) (r : Bool) → r ≡ among a b x → not r ≡ false → (a ≤ x) × (x ≤ b)
+inside a b x r e n = among-both a b x (sym e ∙ not-false r n)
+
+among-requires : tie.Need-among-requires
+among-requires c κs = search needs
+
 returns : tie.Need-returns
-returns c = rule-broken (c .before .args .self) (λ k. omega arith)
+returns c = rule-broken _ (λ k. outside _ _ _ _ (c .before .among .ensures) (c .if1 .taken) (k .numbered) (k .number-le))
+
+among-requires-2 : tie.Need-among-requires-2
+among-requires-2 c κs = search needs
 
 returns-2 : tie.Need-returns-2
-returns-2 c = rule-broken (c .before .before .args .self) (λ k. omega arith)
+returns-2 c = rule-broken _ (λ k. outside _ _ _ _ (c .before .among2 .ensures) (c .if2 .taken) (k .sized) (k .size-le))
+
+among-requires-3 : tie.Need-among-requires-3
+among-requires-3 c κs = search needs
 
 returns-3 : tie.Need-returns-3
-returns-3 c = rule-broken (c .before .before .before .args .self) (λ k. omega arith)
+returns-3 c = rule-broken _ (λ k. outside _ _ _ _ (c .before .among3 .ensures) (c .if3 .taken) (k .timed) (k .interval-le))
 
 returns-4 : tie.Need-returns-4
-returns-4 c = rule-broken (c .before .before .before .before .args .self) (λ k. omega arith)
+returns-4 c = rule-broken (c .before .before .before .before .before .before .before .before .args .self) (λ k. omega arith)
 
 returns-5 : tie.Need-returns-5
-returns-5 c = rule-broken (c .before .before .before .before .before .args .self) (λ k. omega arith)
+returns-5 c = rule-broken (c .before .before .before .before .before .before .before .before .before .before .args .self) (λ k. omega arith)
 
 returns-6 : tie.Need-returns-6
-returns-6 c = rule-broken (c .before .before .before .before .before .before .args .self) (λ k. omega arith)
-
-returns-7 : tie.Need-returns-7
-returns-7 c = rule-broken (c .before .before .before .before .before .before .before .args .self) (λ k. omega arith)
-
-returns-8 : tie.Need-returns-8
-returns-8 c = rule-broken (c .before .before .before .before .before .before .before .before .before .args .self) (λ k. omega arith)
-
-returns-9 : tie.Need-returns-9
-returns-9 c =
+returns-6 c =
+    let e = c .before .before .before .before in
+    let d = e .before .before in
+    let b = d .before .before in
+    let n = inside _ _ _ _ (b .before .among .ensures) (b .if1 .left) in
+    let s = inside _ _ _ _ (d .before .among2 .ensures) (d .if2 .left) in
+    let i = inside _ _ _ _ (e .before .among3 .ensures) (e .if3 .left) in
     rule-kept _
     (record {
-      numbered = omega arith;
-      number-le = omega arith;
-      sized = omega arith;
-      size-le = omega arith;
-      timed = omega arith;
-      interval-le = omega arith;
+      numbered = n .0;
+      number-le = n .1;
+      sized = s .0;
+      size-le = s .1;
+      timed = i .0;
+      interval-le = i .1;
       fitting = omega arith;
       tolerable = omega arith;
     })
 
 pub rule-spec : {M : Type 1} → statement M
-rule-spec =
-    tie.close
-    (tie.spec
-    returns
-    returns-2
-    returns-3
-    returns-4
-    returns-5
-    returns-6
-    returns-7
-    returns-8
-    returns-9)
+rule-spec = tie.close (tie.spec among-requires returns among-requires-2 returns-2 among-requires-3 returns-3 returns-4 returns-5 returns-6)
