@@ -24,8 +24,8 @@ module _ (φ : ℕ) (cs : List ℕ) where
 
   -- one frame more
   module _ (k o : ℕ) (h : k < length cs) (R : Reached φ cs k o) where
-    pub reached-next : (c p : ℕ) → (c ≡ getD cs k 0) × (c < 65536) → p ≡ o + c - φ → Reached φ cs (k + 1) p
-    reached-next c p e q = (omega arith, omega (arith, R .1, e .1), q ∙ rw (R .2, e .0) (sym (over-next φ cs k h)))
+    pub reached-next : (p : ℕ) → getD cs k 0 < 65536 → p ≡ o + getD cs k 0 - φ → Reached φ cs (k + 1) p
+    reached-next p e q = (omega arith, omega (arith, R .1), q ∙ rw (R .2) (sym (over-next φ cs k h)))
 
     pub full-next : φ ≤ o + getD cs k 0 → Full φ cs k → Full φ cs (k + 1)
     full-next a F j u = by-lt j k (F j) (λ l. let e : j ≡ k = omega arith in rw (e, sym (R .2)) a)

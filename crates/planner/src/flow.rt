@@ -5,7 +5,6 @@ ghost use lib.ListN.{length, take, getD};
 ghost use Rattle.planner.specs.Cells.{over, Reached, Starts, step, stepOf, stamp, endedOf};
 use crate::frames::Reach;
 use crate::frames::overhang;
-use crate::frames::wide;
 use crate::search::first_lawful;
 use flows::Flow;
 use placing::Found;
@@ -44,7 +43,7 @@ pub(crate) fn place(
 fn lower(a: u32, b: u16) -> u16
     ensures { λ r. ⌜ r ≡ min a b ⌝ }
 {
-    if a < wide(b) { a as u16 } else { b }
+    if a < b as u32 { a as u16 } else { b }
 }
 
 // Ends the group for the flow, which has the index j, unless it is of another group: its frame's overhang is its base from now on.
@@ -72,7 +71,7 @@ pub(crate) fn settle(
     }
     let k = frames[j] as usize;
     let base = overhang(contents, frame, from, k);
-    let most = base + wide(f.jitter);
+    let most = base + f.jitter as u32;
     limits[k] = lower(most, limits[k]);
     bases[j] = base as u16;
     Reach { at: k, over: base }

@@ -11,18 +11,11 @@ pub struct Reach {
     pub over: u32,
 }
 
-// The same number.
-pub(crate) fn wide(x: u16) -> u32
-    ensures { λ r. ⌜ (r ≡ x) × (r < 65536) ⌝ }
-{
-    x as u32
-}
-
 // What of t slots passes a frame.
 pub(crate) fn past(t: u32, frame: u16) -> u32
     ensures { λ r. ⌜ r ≡ t - frame ⌝ }
 {
-    let slots = wide(frame);
+    let slots = frame as u32;
     if slots < t { t - slots } else { 0 }
 }
 
@@ -39,7 +32,7 @@ pub(crate) fn overhang(contents: &[u16], frame: u16, from: Reach, k: usize) -> u
         j = from.at;
     }
     while j < k {
-        over = past(over + wide(contents[j]), frame);
+        over = past(over + contents[j] as u32, frame);
         j += 1;
     }
     over

@@ -6,7 +6,6 @@ ghost use lib.ListN.{length, getD, drop};
 ghost use Rattle.planner.specs.Cells.{Starts, first, stops};
 use crate::frames::Reach;
 use crate::frames::past;
-use crate::frames::wide;
 use placing::Found;
 
 // Frame k is one of the window, and with the overhang `over` it has no free slot.
@@ -15,7 +14,7 @@ fn full(contents: &[u16], frame: u16, k: usize, over: u32) -> bool
     ensures { λ r. ⌜ (r ≡ true → (k < length (now (contents .entry))) × (frame ≤ over + getD (now (contents .entry)) k 0)) ⌝ }
 {
     if k < contents.len() {
-        wide(frame) <= over + wide(contents[k])
+        frame as u32 <= over + contents[k] as u32
     } else {
         false
     }
@@ -30,7 +29,7 @@ pub(crate) fn first_free(contents: &[u16], frame: u16, from: Reach) -> Reach
     let mut k = from.at;
     let mut over = from.over;
     while full(contents, frame, k, over) {
-        over = past(over + wide(contents[k]), frame);
+        over = past(over + contents[k] as u32, frame);
         k += 1;
     }
     Reach { at: k, over: over }
@@ -41,7 +40,7 @@ fn stopped(limits: &[u16], k: usize, push: u32) -> bool
     ensures { λ r. ⌜ r ≡ stops push (drop k (now (limits .entry))) ⌝ }
 {
     if k < limits.len() {
-        wide(limits[k]) < push
+        push > limits[k] as u32
     } else {
         true
     }

@@ -30,8 +30,8 @@ overhang-requires c κs =
     let s = c .before .before .before .before .before .before in
     ((omega arith, omega (arith, own (c .before))), s .pre .1 .1)
 
-wide-requires : tie.Need-wide-requires
-wide-requires c κs = search needs
+cast-most : tie.Need-cast-most
+cast-most c = search needs
 
 add-most : tie.Need-add-most
 add-most c = omega (arith, c .before .overhang .ensures .2, own (c .before .before .before))
@@ -72,7 +72,7 @@ returns-2 c =
     let e = c .before .before .before .before .before in
     let a = e .before .before .before .before .before .args in (
       sym (stamp-own (a .frame) (a .interval) (a .j) (a .contents .now) (a .limits .now) (a .frames .now) (a .bases .now) (a .f) (e .if1 .left)
-          ∙ rw (c .lower .ensures, c .before .before .wide .ensures .0, o .ensures .2)),
+          ∙ rw (c .lower .ensures, o .ensures .2)),
       o .ensures,
     )
 
@@ -84,7 +84,7 @@ settle-spec =
     shared-slice-read-k
     cast-k
     overhang-requires
-    wide-requires
+    cast-most
     add-most
     mul-lower
     slice-read-lower

@@ -3,6 +3,7 @@ use mathlib.Core.Path.{_≡_}
 use mathlib.Core.Logic.{⊎-elim}
 use Prim.Native.Nat.{_-_, _≤_, _<_}
 use native.Mathlib.Omega.{arith}
+use lib.ListN.{getD}
 use Rattle.planner.specs.Cells.{Reached}
 use Rattle.planner.proofs.Starts.{starts-front, reached-next}
 use borrow.Author.Needs.{needs}
@@ -15,6 +16,11 @@ Inv-loop contents frame k over₀ j₀ over j = (j ≤ k) × Reached frame conte
 abbrev μ-loop : tie.MeasureT-loop
 μ-loop contents frame k over₀ j₀ over j = k - j
 
+-- the content of the next frame is a number of 16 bits
+cell : (c : tie.After-shared-slice-known2 Inv-loop μ-loop)
+    → let l = c .before .before .before in getD (l .before .before .before .before .args .contents .now) (l .loop .j) 0 < 65536
+cell c = omega (arith, c .shared-slice-known2 .given (c .before .before .before .loop .j))
+
 loop-holds : tie.Need-loop-holds Inv-loop μ-loop
 loop-holds c =
     let s = c .before .before .before in
@@ -23,17 +29,17 @@ loop-holds c =
     (λ u. (omega (arith, u .2), rw (u .1, u .2) (starts-front (s .args .frame) (s .args .contents .now) .0)))
     (c .if1 .came)
 
-mul-wide : tie.Need-mul-wide Inv-loop μ-loop
-mul-wide c = search needs
+mul-past : tie.Need-mul-past Inv-loop μ-loop
+mul-past c = search needs
 
-shared-slice-read-wide : tie.Need-shared-slice-read-wide Inv-loop μ-loop
-shared-slice-read-wide c = search needs
+shared-slice-read-past : tie.Need-shared-slice-read-past Inv-loop μ-loop
+shared-slice-read-past c = search needs
 
-wide-requires : tie.Need-wide-requires Inv-loop μ-loop
-wide-requires c κs = search needs
+cast-past : tie.Need-cast-past Inv-loop μ-loop
+cast-past c = omega (arith, cell c)
 
 add-past : tie.Need-add-past Inv-loop μ-loop
-add-past c = search needs
+add-past c = omega (arith, cell (c .before))
 
 past-requires : tie.Need-past-requires Inv-loop μ-loop
 past-requires c κs = search needs
@@ -46,14 +52,12 @@ loop-less c = search needs
 
 loop-again : tie.Need-loop-again Inv-loop μ-loop
 loop-again c =
-    let v = c .before .before .before .before .before .before .loop in
-    let s = c .before .before .before .before .before .before .before .before .before .before in
+    let k = c .before .before in
+    let v = k .before .before .before .loop in
+    let s = k .before .before .before .before .before .before .before in
     let a = s .args in
-    let h : v .j < a .k = c .before .before .before .before .before .loop-test .taken in (
-      omega arith,
-      reached-next (a .frame) (a .contents .now) (v .j) (v .over) (omega (arith, s .pre .0)) (v .inv .1)
-          (c .before .before .wide .result) (c .past .result) (c .before .before .wide .ensures) (c .past .ensures),
-    )
+    let h : v .j < a .k = k .before .before .loop-test .taken in
+    (omega arith, reached-next (a .frame) (a .contents .now) (v .j) (v .over) (omega (arith, s .pre .0)) (v .inv .1) (c .past .result) (cell k) (c .past .ensures))
 
 returns : tie.Need-returns Inv-loop μ-loop
 returns c =
@@ -68,9 +72,9 @@ overhang-spec =
     Inv-loop
     μ-loop
     loop-holds
-    mul-wide
-    shared-slice-read-wide
-    wide-requires
+    mul-past
+    shared-slice-read-past
+    cast-past
     add-past
     past-requires
     add-j

@@ -19,40 +19,45 @@ goes-on : (c : tie.Then1 Inv-loop μ-loop)
     → let v = c .before .before .loop in let a = c .before .before .before .before .args in (v .k < length (a .contents .now)) × (a .frame ≤ v .over + getD (a .contents .now) (v .k) 0)
 goes-on c = c .before .full .ensures (c .if1 .taken)
 
+-- its content is a number of 16 bits
+cell : (c : tie.After-shared-slice-known2 Inv-loop μ-loop)
+    → let l = c .before .before .before in getD (l .before .before .args .contents .now) (l .loop .k) 0 < 65536
+cell c = omega (arith, c .shared-slice-known2 .given (c .before .before .before .loop .k))
+
 loop-holds : tie.Need-loop-holds Inv-loop μ-loop
 loop-holds c = c .before .pre .1
 
 full-requires : tie.Need-full-requires Inv-loop μ-loop
 full-requires c κs = omega (arith, c .loop .inv .0)
 
-mul-wide : tie.Need-mul-wide Inv-loop μ-loop
-mul-wide c = omega (arith, goes-on c)
+mul-past : tie.Need-mul-past Inv-loop μ-loop
+mul-past c = omega (arith, goes-on c)
 
-shared-slice-read-wide : tie.Need-shared-slice-read-wide Inv-loop μ-loop
-shared-slice-read-wide c = omega (arith, goes-on (c .before))
+shared-slice-read-past : tie.Need-shared-slice-read-past Inv-loop μ-loop
+shared-slice-read-past c = omega (arith, goes-on (c .before))
 
-wide-requires : tie.Need-wide-requires Inv-loop μ-loop
-wide-requires c κs = search needs
+cast-past : tie.Need-cast-past Inv-loop μ-loop
+cast-past c = omega (arith, cell c)
 
 add-past : tie.Need-add-past Inv-loop μ-loop
-add-past c = omega (arith, c .before .before .before .before .loop .inv .0)
+add-past c = omega (arith, cell c, c .before .before .before .loop .inv .0)
 
 past-requires : tie.Need-past-requires Inv-loop μ-loop
 past-requires c κs = search needs
 
 add-k : tie.Need-add-k Inv-loop μ-loop
-add-k c = omega (arith, goes-on (c .before .before .before))
+add-k c = omega (arith, goes-on (c .before .before))
 
 loop-less : tie.Need-loop-less Inv-loop μ-loop
-loop-less c = omega (arith, goes-on (c .before .before .before))
+loop-less c = omega (arith, goes-on (c .before .before))
 
 loop-again : tie.Need-loop-again Inv-loop μ-loop
 loop-again c =
-    let g = c .before .before .before in
+    let g = c .before .before in
     let v = g .before .before .loop in
     let a = g .before .before .before .before .args in
     let m = goes-on g in (
-      reached-next (a .frame) (a .contents .now) (v .k) (v .over) (m .0) (v .inv .0) (c .before .wide .result) (c .past .result) (c .before .wide .ensures) (c .past .ensures),
+      reached-next (a .frame) (a .contents .now) (v .k) (v .over) (m .0) (v .inv .0) (c .past .result) (cell (c .before)) (c .past .ensures),
       full-next (a .frame) (a .contents .now) (v .k) (v .over) (m .0) (v .inv .0) (m .1) (v .inv .1),
     )
 
@@ -67,9 +72,9 @@ first-free-spec =
     μ-loop
     loop-holds
     full-requires
-    mul-wide
-    shared-slice-read-wide
-    wide-requires
+    mul-past
+    shared-slice-read-past
+    cast-past
     add-past
     past-requires
     add-k

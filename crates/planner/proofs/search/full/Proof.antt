@@ -2,34 +2,34 @@
 use mathlib.Core.Path.{sym}
 use Prim.Native.Nat.{_+_}
 use native.Mathlib.Omega.{arith}
+use lib.ListN.{getD}
 use borrow.Author.Tests.{leb-true}
 use Rattle.logic.proofs.Tests.{true-not-false}
 use borrow.Author.Needs.{needs}
 use Rattle.planner.proofs.search.full.Statement.{statement}
 use Rattle.planner.proofs.search.full.Tie as tie
 
-wide-requires : tie.Need-wide-requires
-wide-requires c κs = search needs
+mul-result : tie.Need-mul-result
+mul-result c = search needs
 
-mul-wide : tie.Need-mul-wide
-mul-wide c = search needs
+shared-slice-read-result : tie.Need-shared-slice-read-result
+shared-slice-read-result c = search needs
 
-shared-slice-read-wide : tie.Need-shared-slice-read-wide
-shared-slice-read-wide c = search needs
-
-wide-requires-2 : tie.Need-wide-requires-2
-wide-requires-2 c κs = search needs
+cast-result : tie.Need-cast-result
+cast-result c = omega (arith, c .shared-slice-known .given (c .before .before .args .k))
 
 add-result : tie.Need-add-result
-add-result c = search needs
+add-result c = omega (arith, c .shared-slice-known .given (c .before .before .args .k))
 
 returns : tie.Need-returns
 returns c =
-    let i = c .before .before .before in
-    λ e. (i .if1 .taken, omega (arith, leb-true (c .before .before .wide .result) (i .before .before .args .over + c .wide2 .result) e))
+    let a = c .before .before .args in
+    λ e. (c .before .if1 .taken, leb-true (a .frame) (a .over + getD (a .contents .now) (a .k) 0) e)
 
 returns-2 : tie.Need-returns-2
 returns-2 c = λ e. true-not-false (sym e)
 
 pub full-spec : {M : Type 1} → statement M
-full-spec = tie.close (tie.spec wide-requires mul-wide shared-slice-read-wide wide-requires-2 add-result returns returns-2)
+full-spec =
+    tie.close
+    (tie.spec mul-result shared-slice-read-result cast-result add-result returns returns-2)
