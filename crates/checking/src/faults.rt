@@ -9,7 +9,6 @@ ghost use Rattle.tables.specs.Tables.{grantsOf};
 ghost use Rattle.checking.specs.Parts.{Indexed, noted, note, next, answers, testsWith};
 use crate::finding::find;
 use crate::finding::record_of;
-use crate::numbers::wide;
 use crate::timing::last_of;
 use crate::timing::stamp;
 use crate::timing::timely;
@@ -44,13 +43,13 @@ fn note(place: usize, passes: bool, here: usize) -> usize
 fn next(seen: Seen, timely: bool, f: Flow, g: Grant, cycle: u16, here: usize) -> Seen
     ensures { λ r. ⌜ r ≡ next seen timely f g cycle here ⌝ }
 {
-    let start = wide(g.start);
-    let end = start + wide(facts::occupies(f));
+    let start = g.start as u64;
+    let end = start + facts::occupies(f) as u64;
     Seen {
         unknown: seen.unknown,
         timing: note(seen.timing, timely, here),
         overlap: note(seen.overlap, seen.end <= start, here),
-        past: note(seen.past, end <= wide(cycle), here),
+        past: note(seen.past, end <= cycle as u64, here),
         end: end,
     }
 }

@@ -6,7 +6,6 @@ mod cells;
 mod counts;
 mod faults;
 mod finding;
-mod numbers;
 mod tests;
 mod timing;
 

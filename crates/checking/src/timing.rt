@@ -12,7 +12,6 @@ ghost use Rattle.law.specs.Check.{look, nominal, last, steps, timely};
 ghost use Rattle.law.specs.Law.{blank};
 ghost use Rattle.checking.specs.Parts.{stampOf};
 use crate::finding::FLOWS;
-use crate::numbers::wide;
 use flows::Flow;
 use tables::Grant;
 
@@ -69,7 +68,7 @@ fn steps(interval: u16, stamp: u16, time: u16) -> bool
     if stamp == 0 {
         return time < interval;
     }
-    wide(time) + 1 == wide(stamp) + wide(interval)
+    time as u64 + 1 == stamp as u64 + interval as u64
 }
 
 // Grant g of flow f is late by no more than its jitter and its start, and steps from the flow's last one.
