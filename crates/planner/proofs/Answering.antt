@@ -30,6 +30,7 @@ use Rattle.planner.specs.Finished.{Finished}
 use Rattle.planner.specs.Rows.{written, Tabled}
 use Rattle.planner.specs.Plan.{test10, grantsPlanned, planTable}
 use Rattle.planner.proofs.Bounds.{frame-present, interval-le}
+use Rattle.planner.proofs.Grouping.{no-frame-not-lawful}
 use Rattle.planner.proofs.Printing.{table-written}
 use Rattle.tables.proofs.Meaning.{Fits, length-table}
 
@@ -70,7 +71,7 @@ module _ (l room : List ℕ) (ok : Accepted (flowsOf l)) (φ : ℕ) (e : φ ≡ 
     where
       go : (o : Outcome (List (List Settled))) → layout fs ≡ o → Finished φ fs o q cs ls ks bs → test10 fs ≡ Refused (NoFrameAt p)
       go (refused n) w h = let z : NoFrame n ≡ NoFrame p = sym h ∙ a in let y : n ≡ p = cc in test10-refused fs p (rw y at w)
-      go (done hs) w h = let z : NoFrame p ≡ Lawful = sym a ∙ h .0 in let y : _≡_ {A = ℕ} 0 1 = cc in absurd (omega arith)
+      go (done hs) w h = no-frame-not-lawful (sym a ∙ h .0)
 
   -- the layout that is to be written, of w frames
   pub record Standing (w : ℕ) : Type 0 where
@@ -82,7 +83,7 @@ module _ (l room : List ℕ) (ok : Accepted (flowsOf l)) (φ : ℕ) (e : φ ≡ 
   answer-standing q w F a b = go (layout fs) refl F
     where
       go : (o : Outcome (List (List Settled))) → layout fs ≡ o → Finished φ fs o q cs ls ks bs → Standing w
-      go (refused n) u h = let z : NoFrame n ≡ Lawful = sym h ∙ a in let y : _≡_ {A = ℕ} 0 1 = cc in absurd (omega arith)
+      go (refused n) u h = no-frame-not-lawful (sym h ∙ a)
       go (done hs) u h =
           let S = h .1 in
           let d : planned fs ≡ done (rows φ 0 0 hs) = rw e (planned-done fs hs u) in

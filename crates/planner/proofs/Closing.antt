@@ -15,7 +15,7 @@ use Rattle.planner.specs.State.{Opened, Closed, Added}
 use Rattle.planner.proofs.Copies.{length-rep}
 use Rattle.planner.proofs.Growing.{narrow}
 use Rattle.planner.proofs.Limits.{lawful-over}
-use Rattle.planner.proofs.Grouping.{Placed-as, group-is, Inside, cells-inside, length-contents, length-olds}
+use Rattle.planner.proofs.Grouping.{no-frame-not-lawful, Placed-as, group-is, Inside, cells-inside, length-contents, length-olds}
 use Rattle.planner.proofs.Settling.{ended-is}
 use Rattle.planner.proofs.Layouts.{opened-is, standing-rep}
 use Rattle.placing.proofs.Layouts.{opened-olds, opened-length}
@@ -50,7 +50,7 @@ module _ {φ i w : ℕ} {fs : List Flow} {is : List ℕ} {hs : List (List Settle
     where
       go : (r : Outcome (List Frame)) → Placed-as φ i fs window (rep (O .times) (take w ls)) ks r placed → Closed φ i fs is r (NoFrame p) ds ms ns es
       go (refused q) h = sym e ∙ h
-      go (done M) h = let z : NoFrame p ≡ Lawful = sym e ∙ h .0 in let y : _≡_ {A = ℕ} 0 1 = cc in absurd (omega arith)
+      go (done M) h = no-frame-not-lawful (sym e ∙ h .0)
 
   -- a group that stands
   length-filled : (M : List Frame) → olds M ≡ olds window → length M ≡ length cs
@@ -62,7 +62,7 @@ module _ {φ i w : ℕ} {fs : List Flow} {is : List ℕ} {hs : List (List Settle
       where
         go : (r : Outcome (List Frame)) → Placed-as φ i fs window (rep (O .times) (take w ls)) ks r placed
             → Closed φ i fs is r Lawful (placed .contents) (ended .limits) (placed .frames) (ended .bases)
-        go (refused q) h = let z : NoFrame q ≡ Lawful = sym h ∙ all in let y : _≡_ {A = ℕ} 0 1 = cc in absurd (omega arith)
+        go (refused q) h = no-frame-not-lawful (sym h ∙ all)
         go (done M) h =
             let F = h .1 in
             let wide : length M ≡ i / φ = length-filled M (F .old) ∙ O .frames in (
@@ -78,7 +78,7 @@ module _ {φ i w : ℕ} {fs : List Flow} {is : List ℕ} {hs : List (List Settle
     low-over k h = go (group φ i 1 window fs) placed-as
       where
         go : (r : Outcome (List Frame)) → Placed-as φ i fs window (rep (O .times) (take w ls)) ks r placed → over φ 0 (take k (placed .contents)) < 65536
-        go (refused q) h = let z : NoFrame q ≡ Lawful = sym h ∙ all in let y : _≡_ {A = ℕ} 0 1 = cc in absurd (omega arith)
+        go (refused q) h = no-frame-not-lawful (sym h ∙ all)
         go (done M) h′ =
             let F = h′ .1 .filling in
             let l : length (placed .contents) ≡ length cs = ap length (F .content) ∙ length-contents M ∙ length-filled M (h′ .1 .old) in

@@ -21,6 +21,10 @@ use Rattle.placing.proofs.Groups.{group-at, group-nowhere, group-other, by-foun
 use Rattle.logic.proofs.Tests.{by-test, by-lt, by-eq, true-not-false}
 use Rattle.planner.proofs.Limits.{total, lawful-tail, lawful-room, firstLawful-first, first-fits}
 
+-- a group that has no lawful frame for a flow is not placed
+pub no-frame-not-lawful : {P : Type 0} {p : ℕ} → NoFrame p ≡ Lawful → P
+no-frame-not-lawful e = let z : _≡_ {A = ℕ} 0 1 = cc in absurd (omega arith)
+
 -- a frame with nothing in it
 abbrev pub none : Frame
 none = record { old = []; new = [] }
@@ -264,9 +268,7 @@ cells-inside φ i j cs ls ks (f ∷ fs) h p =
       λ z. rw (cells-front φ i (suc j) j ds ls (set ks j k) fs (omega arith), getD-set-same ks j k 0 (omega arith)) (omega (arith, first-fits φ (occupies f) 0 0 k cs ls a .upto)),
       rw (length-set cs k (getD cs k 0 + occupies f)) at r,
     ))
-    (λ a.
-    let z : NoFrame (suc j) ≡ Lawful = sym (ap (λ (l : Laid). l .placed) (cells-stop φ i j cs ls ks f fs cs ks (step-nowhere φ i j cs ls ks f e a))) ∙ p in
-    let y : _≡_ {A = ℕ} 0 1 = cc in absurd (omega arith)))
+    (λ a. no-frame-not-lawful (sym (ap (λ (l : Laid). l .placed) (cells-stop φ i j cs ls ks f fs cs ks (step-nowhere φ i j cs ls ks f e a))) ∙ p)))
     (λ e.
     let on = cells-on φ i j cs ls ks f fs cs ks (step-other φ i j cs ls ks f e) in
     rw on (λ z. absurd (e z), cells-inside φ i (suc j) cs ls ks fs (omega arith) (sym (ap (λ (l : Laid). l .placed) on) ∙ p)))

@@ -20,6 +20,7 @@ use Rattle.planner.specs.Finished.{Finished}
 use Rattle.lists.specs.Accepted.{Accepted}
 use Rattle.planner.proofs.Bounds.{small, interval-le, frames-le}
 use Rattle.placing.proofs.Layouts.{settle-length}
+use Rattle.planner.proofs.Grouping.{no-frame-not-lawful}
 use Rattle.planner.proofs.Growing.{Grown, grown-start, times-positive, window-frames, window-slots, window-fits, to-come, grown-next, grown-all}
 use Rattle.planner.proofs.Rising.{from-none}
 
@@ -94,7 +95,7 @@ module _ {φ i t w : ℕ} {fs : List Flow} {is : List ℕ} {hs : List (List Sett
     where
       go : (r : Outcome (List Frame)) → group φ i 1 (opened (rep (i / t) hs)) fs ≡ r → Closed φ i fs is r (NoFrame p) ds ms ns es → layout fs ≡ refused p
       go (refused q) e h = layout-on (refused q) e ∙ cc
-      go (done L) e h = let z : NoFrame p ≡ Lawful = h .0 in let y : _≡_ {A = ℕ} 0 1 = cc in absurd (omega arith)
+      go (done L) e h = no-frame-not-lawful (h .0)
 
   -- a group that stands leads to the next
   upto-next : φ ≡ frame fs → (ds ms ns es : List ℕ) → Closed φ i fs is (group φ i 1 (opened (rep (i / t) hs)) fs) Lawful (take (i / φ) ds) (take (i / φ) ms) ns es
@@ -103,7 +104,7 @@ module _ {φ i t w : ℕ} {fs : List Flow} {is : List ℕ} {hs : List (List Sett
     where
       go : (r : Outcome (List Frame)) → group φ i 1 (opened (rep (i / t) hs)) fs ≡ r → Closed φ i fs is r Lawful (take (i / φ) ds) (take (i / φ) ms) ns es
           → (gs : List (List Settled)) × Upto φ (nextInterval i 0 fs) i (i / φ) fs (is ++ (i ∷ [])) gs ds ms ns es
-      go (refused q) e h = let z : Lawful ≡ NoFrame q = h in let y : _≡_ {A = ℕ} 0 1 = cc in absurd (omega arith)
+      go (refused q) e h = no-frame-not-lawful (sym h)
       go (done L) e h = (
         settle φ 0 L,
         record {
@@ -116,14 +117,17 @@ module _ {φ i t w : ℕ} {fs : List Flow} {is : List ℕ} {hs : List (List Sett
 
   -- ---- the same of a window that is a part of the whole
 
-  module _ (f : φ ≡ frame fs) (k : ℕ) (e : k ≡ i / φ) (c : k ≤ length cs) (l : k ≤ length ls) where
+  module _ (f : φ ≡ frame fs) (k : ℕ) (e : k ≡ i / φ) (c : length cs ≡ 256) (l : length ls ≡ 256) where
+    part-fits : k ≤ 256
+    part-fits = omega (arith, e, rw (sym f) at (frames-le fs A i (G .next n .1)))
+
     pub ready-on : Ready φ i w fs (take k cs) (take k ls) ks bs
-    ready-on = rw e (is, hs, upto-opens f (omega arith) (omega arith))
+    ready-on = rw e (is, hs, upto-opens f (omega (arith, part-fits)) (omega (arith, part-fits)))
 
     closed-on : (r : Placed) (ds ms ns es : List ℕ) → Added φ i w fs (take k cs) (take k ls) ks bs r ds ms ns es
         → Closed φ i fs is (group φ i 1 (opened (rep (i / t) hs)) fs) r ds ms ns es
     unfolding upto-opens
-    closed-on r ds ms ns es a = (rw e at a) is hs (upto-opens f (omega arith) (omega arith))
+    closed-on r ds ms ns es a = (rw e at a) is hs (upto-opens f (omega (arith, part-fits)) (omega (arith, part-fits)))
 
     pub refused-on : (p : ℕ) (r : Placed) (ds ms ns es cs′ ls′ : List ℕ) → Added φ i w fs (take k cs) (take k ls) ks bs r ds ms ns es → r ≡ NoFrame p
         → Finished φ fs (layout fs) (NoFrame p) cs′ ls′ ns es
@@ -134,7 +138,7 @@ module _ {φ i t w : ℕ} {fs : List Flow} {is : List ℕ} {hs : List (List Sett
         → (gs : List (List Settled)) × Upto φ (nextInterval i 0 fs) i (i / φ) fs (is ++ (i ∷ [])) gs (ds ++ drop k cs) (ms ++ drop k ls) ns es
     next-on r ds ms ns es lc ll a q =
         upto-next f (ds ++ drop k cs) (ms ++ drop k ls) ns es
-        (rw (take-at ds (drop k cs) (i / φ) (lc ∙ length-take-le k cs c ∙ e), take-at ms (drop k ls) (i / φ) (ll ∙ length-take-le k ls l ∙ e))
+        (rw (take-at ds (drop k cs) (i / φ) (lc ∙ length-take-le k cs (omega (arith, part-fits)) ∙ e), take-at ms (drop k ls) (i / φ) (ll ∙ length-take-le k ls (omega (arith, part-fits)) ∙ e))
         (rw q at (closed-on r ds ms ns es a)))
 
 -- ---- the end

@@ -2,7 +2,7 @@
 use mathlib.Core.Path.{_≡_, refl, sym, _∙_}
 use mathlib.Core.Bool.{true, false}
 use mathlib.Core.List.{List, [], _∷_, _++_}
-use Prim.Native.Nat.{ℕ, _+_, _≤_, _<_}
+use Prim.Native.Nat.{ℕ, _+_, _*_, _≤_, _<_}
 use native.Mathlib.Numerals.{add-one}
 use native.Mathlib.Omega.{arith}
 use lib.Dec.{ltb}
@@ -19,6 +19,10 @@ over-append : (φ o : ℕ) (xs ys : List ℕ) → over φ o (xs ++ ys) ≡ over 
 unfolding over
 over-append φ o [] ys = refl
 over-append φ o (x ∷ xs) ys = over-append φ (past φ o x) xs ys
+
+-- what is carried on grows by no more than a frame's content
+pub carried : (φ o k c : ℕ) → o ≤ 65535 * k → c < 65536 → past φ o c ≤ 65535 * (k + 1)
+carried φ o k c h l = omega arith
 
 -- one frame more
 pub over-next : (φ : ℕ) (cs : List ℕ) (k : ℕ) → k < length cs → over φ 0 (take (k + 1) cs) ≡ past φ (over φ 0 (take k cs)) (getD cs k 0)

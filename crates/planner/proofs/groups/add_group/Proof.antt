@@ -1,15 +1,15 @@
 -- `planner::groups::add_group` meets its contract. Assumes nothing.
-use mathlib.Core.Path.{_≡_, sym, ap, _∙_}
-use Prim.Native.Nat.{ℕ, _*_, _/_, _≤_, _<_}
+use mathlib.Core.Path.{_≡_, sym, _∙_}
+use Prim.Native.Nat.{_*_, _/_, _≤_, _<_}
 use native.Mathlib.Omega.{arith}
 use lib.ListN.{length}
 use Rattle.lists.proofs.Records.{length-flows}
 use Rattle.lists.specs.Lists.{flowsOf}
+use Rattle.planner.proofs.Grouping.{no-frame-not-lawful}
 use Rattle.planner.proofs.Closing.{Leaves, left-inside, left-low, added-refused, added-all}
 use Rattle.planner.proofs.Growing.{narrow}
 use Rattle.planner.proofs.Turns.{inside-at}
 use Rattle.planner.proofs.Housing.{taken}
-use borrow.Author.Needs.{needs}
 use Rattle.planner.proofs.groups.add_group.Statement.{statement}
 use Rattle.planner.proofs.groups.add_group.Tie as tie
 
@@ -22,6 +22,13 @@ window c =
 
 abbrev start : tie.After-place-group → tie.Start
 start c = c .before .before .before .before .before .before .before .before .before .before .before .before .before .before .before .before .before
+
+abbrev group : tie.After-settle-group → tie.After-place-group
+group c = c .before .before .before .before .before .before .before .before .before .before .before
+
+-- the window keeps its cells
+kept : (c : tie.After-place-group) → (length (c .place-group .last .1 .1 .1 .0) ≡ length (start c .args .contents .now)) × (length (c .before .before .before .before .before .before .repeat2 .last .0) ≡ length (start c .args .limits .now))
+kept c = (c .place-group .kept .1 .1 .1 .0 ∙ c .before .before .before .before .before .before .before .before .before .before .repeat .kept .0, c .before .before .before .before .before .before .repeat2 .kept .0)
 
 -- what the placed group leaves
 leaves : (c : tie.After-place-group) → let a = start c .args in Leaves (a .frame) (a .interval) (a .width) (flowsOf (a .list .now)) (a .contents .now) (a .limits .now) (a .frames .now) (a .bases .now)
@@ -47,28 +54,27 @@ place-group-requires c κs =
     let w = window s in
     let k = c .before .before .before .before .before .before .before .before .before .repeat .kept .0 in
     let l = c .before .before .before .before .before .repeat2 .kept .0 in
-    let e : length (c .before .before .before .before .before .before .before .before .before .repeat .last .0) * s .args .frame ≡ length (s .args .contents .now) * s .args .frame = ap (λ (x : ℕ). x * s .args .frame) k in
-    (s .pre .0 .0, (l ∙ w .2 ∙ sym k, omega arith, omega arith))
+    (s .pre .0 .0, (l ∙ w .2 ∙ sym k, rw k (w .3), rw k (w .4)))
 
 enum-known-placed : tie.Need-enum-known-placed
-enum-known-placed c = search needs
+enum-known-placed c = c .match .keys1
 
 same-length : tie.Need-same-length
-same-length c = search needs
+same-length c = kept (c .before .before .before .before .before .before .before) .0
 
 same-length-2 : tie.Need-same-length-2
-same-length-2 c = search needs
+same-length-2 c = kept (c .before .before .before .before .before .before .before) .1
 
 same-length-3 : tie.Need-same-length-3
-same-length-3 c = search needs
+same-length-3 c = c .before .before .before .before .before .before .before .place-group .kept .1 .1 .1 .1 .1 .0
 
 returns : tie.Need-returns
 returns c =
     let g = c .before .before .before .before .before .before .before in
-    (added-refused (leaves g) (c .before .placed .given .0 .0) _ _ _ (c .before .placed .given .1), λ z. let y : _≡_ {A = ℕ} 0 1 = cc in absurd (omega arith))
+    (added-refused (leaves g) (c .before .placed .given .0 .0) _ _ _ (c .before .placed .given .1), no-frame-not-lawful)
 
 enum-told : tie.Need-enum-told
-enum-told c = search needs
+enum-told c = c .match .keys2
 
 settle-group-requires : tie.Need-settle-group-requires
 settle-group-requires c κs =
@@ -78,34 +84,33 @@ settle-group-requires c κs =
     let w = window s in
     let r = s .pre .1 in
     let all = c .before .before .before .before .enum-told .given .1 in
-    let k = g .place-group .kept .1 .1 .1 .0 ∙ g .before .before .before .before .before .before .before .before .before .before .repeat .kept .0 in
-    let l = g .before .before .before .before .before .before .repeat2 .kept .0 in (
-      (omega (arith, g .place-group .kept .1 .1 .1 .1 .1 .0), s .pre .0 .1),
+    let k = kept g in (
+      (rw (g .place-group .kept .1 .1 .1 .1 .1 .0) (s .pre .0 .0), s .pre .0 .1),
       (
-        (l ∙ w .2 ∙ sym k, omega arith),
+        (k .1 ∙ w .2 ∙ sym (k .0), rw (k .0) (w .3)),
         (
-          (λ i h e. rw k (inside-at (a .list .now) (a .interval) (length (a .contents .now)) (g .place-group .last .1 .1 .1 .1 .1 .0) (left-inside (leaves g) (r .0) (r .1) (r .2) all) i h e)),
+          (λ i h e. rw (k .0) (inside-at (a .list .now) (a .interval) (length (a .contents .now)) (g .place-group .last .1 .1 .1 .1 .1 .0) (left-inside (leaves g) (r .0) (r .1) (r .2) all) i h e)),
           left-low (leaves g) (r .0) (r .1) (r .2) all,
         ),
       ),
     )
 
 same-length-4 : tie.Need-same-length-4
-same-length-4 c = search needs
+same-length-4 c = kept (group (c .before .before .before .before)) .0
 
 same-length-5 : tie.Need-same-length-5
-same-length-5 c = search needs
+same-length-5 c = let e = c .before .before .before .before in e .settle-group .kept .1 .1 .1 .1 .0 ∙ kept (group e) .1
 
 same-length-6 : tie.Need-same-length-6
-same-length-6 c = search needs
+same-length-6 c = group (c .before .before .before .before) .place-group .kept .1 .1 .1 .1 .1 .0
 
 same-length-7 : tie.Need-same-length-7
-same-length-7 c = search needs
+same-length-7 c = c .before .before .before .before .settle-group .kept .1 .1 .1 .1 .1 .1 .0
 
 returns-2 : tie.Need-returns-2
 returns-2 c =
     let e = c .before .before .before .before in
-    let g = e .before .before .before .before .before .before .before .before .before .before .before in
+    let g = group e in
     let a = start g .args in
     let r = start g .pre .1 in
     let all = e .before .before .before .before .before .enum-told .given .1 in (

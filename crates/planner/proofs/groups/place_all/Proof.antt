@@ -4,7 +4,7 @@ use mathlib.Core.List.{List, [], _∷_, _++_}
 use Prim.Native.Nat.{ℕ, _-_, _/_, _≤_}
 use native.Mathlib.Nat.{sub-zero}
 use native.Mathlib.Omega.{arith}
-use lib.ListN.{length, take}
+use lib.ListN.{length, take, drop}
 use lib.Seq.{length-front}
 use Rattle.logic.specs.Lists.{All}
 use Rattle.lists.specs.Lists.{flowsOf}
@@ -13,6 +13,7 @@ use Rattle.planner.specs.Intervals.{from}
 use Rattle.planner.specs.Finished.{Housed}
 use Rattle.lists.proofs.Cycle.{frame-pos}
 use Rattle.planner.proofs.Bounds.{frames-le}
+use Rattle.planner.proofs.Grouping.{no-frame-not-lawful}
 use Rattle.planner.proofs.Growing.{to-come, grown-all}
 use Rattle.planner.proofs.Reaching.{Upto, upto-start, ready-on, refused-on, next-on, upto-end}
 use Rattle.planner.proofs.Housing.{housed-on}
@@ -30,6 +31,24 @@ abbrev μ-loop : tie.MeasureT-loop
 
 abbrev start : tie.At-loop Inv-loop μ-loop → tie.Start Inv-loop μ-loop
 start c = c .before .before .before .before .before .before
+
+abbrev loop : tie.After-add-group Inv-loop μ-loop → tie.At-loop Inv-loop μ-loop
+loop c = c .before .before .before .before .before .before
+
+-- there are 256 frames
+full : (c : tie.Start Inv-loop μ-loop) → (256 ≡ length (c .args .contents .now)) × (256 ≡ length (c .args .limits .now))
+full c = (sym (ap length (c .pre .1 .1 .0)), sym (ap length (c .pre .1 .1 .1)))
+
+-- a group keeps the cells
+kept : (c : tie.After-add-group Inv-loop μ-loop) → let v = loop c .loop in let a = start (loop c) .args in let l = c .add-group .last .1 .1 .1 .1 in
+    (length (l .0 ++ drop (v .interval / a .frame - 0) (v .contents)) ≡ 256) × (length (l .1 .0 ++ drop (v .interval / a .frame - 0) (v .limits)) ≡ 256)
+    × (length (l .1 .1 .0) ≡ length (a .frames .now)) × (length (l .1 .1 .1 .0) ≡ length (a .bases .now))
+kept c =
+    let v = loop c .loop in
+    let l = c .add-group .last .1 .1 .1 .1 in
+    let k = c .add-group .kept .1 .1 .1 .1 in
+    let part = v .interval / start (loop c) .args .frame - 0 in
+    (length-front (v .contents) (l .0) part (k .0) ∙ v .inv .0, length-front (v .limits) (l .1 .0) part (k .1 .0) ∙ v .inv .1, k .1 .1 .0 ∙ v .inv .2, k .1 .1 .1 .0 ∙ v .inv .3)
 
 -- the window of the next group is one of the frames that there are
 fits : (c : tie.In-loop Inv-loop μ-loop) → c .before .loop .interval / start (c .before) .args .frame ≤ 256
@@ -82,53 +101,42 @@ part-add-group-end-2 c = omega (arith, fits (c .before), c .before .before .loop
 
 add-group-requires : tie.Need-add-group-requires Inv-loop μ-loop
 add-group-requires c κs =
-    let loop = c .before .before .before .before .before in
-    let v = loop .loop in
-    let s = start loop in
-    let k = fits (c .before .before .before .before) in (
-      (omega (arith, v .inv .2), omega (arith, v .inv .3)),
+    let l = c .before .before .before .before .before in
+    let v = l .loop in
+    let s = start l in (
+      (rw (v .inv .2) (s .pre .0 .0), rw (v .inv .3) (s .pre .0 .1)),
       ready-on (s .pre .1 .0 .0) (v .inv .4 .3) (c .before .before .before .before .loop-test .taken) (s .pre .1 .0 .1)
-          (v .interval / s .args .frame - 0) (sub-zero _) (omega (arith, v .inv .0)) (omega (arith, v .inv .1)),
+          (v .interval / s .args .frame - 0) (sub-zero _) (v .inv .0) (v .inv .1),
     )
 
 enum-known-placed : tie.Need-enum-known-placed Inv-loop μ-loop
-enum-known-placed c = search needs
+enum-known-placed c = c .match .keys1
 
 same-length : tie.Need-same-length Inv-loop μ-loop
-same-length c =
-    let g = c .before .before .before .before .before .before .before .before .before .before .before in
-    let loop = g .before .before .before .before .before .before in
-    let v = loop .loop in
-    length-front (v .contents) (g .add-group .last .1 .1 .1 .1 .0) (v .interval / start loop .args .frame - 0) (g .add-group .kept .1 .1 .1 .1 .0) ∙ v .inv .0 ∙ sym (ap length (start loop .pre .1 .1 .0))
+same-length c = let g = c .before .before .before .before .before .before .before .before .before .before .before in kept g .0 ∙ full (start (loop g)) .0
 
 same-length-2 : tie.Need-same-length-2 Inv-loop μ-loop
-same-length-2 c =
-    let g = c .before .before .before .before .before .before .before .before .before .before .before in
-    let loop = g .before .before .before .before .before .before in
-    let v = loop .loop in
-    length-front (v .limits) (g .add-group .last .1 .1 .1 .1 .1 .0) (v .interval / start loop .args .frame - 0) (g .add-group .kept .1 .1 .1 .1 .1 .0) ∙ v .inv .1 ∙ sym (ap length (start loop .pre .1 .1 .1))
+same-length-2 c = let g = c .before .before .before .before .before .before .before .before .before .before .before in kept g .1 ∙ full (start (loop g)) .1
 
 same-length-3 : tie.Need-same-length-3 Inv-loop μ-loop
-same-length-3 c = search needs
+same-length-3 c = kept (c .before .before .before .before .before .before .before .before .before .before .before) .2
 
 same-length-4 : tie.Need-same-length-4 Inv-loop μ-loop
-same-length-4 c = search needs
+same-length-4 c = kept (c .before .before .before .before .before .before .before .before .before .before .before) .3
 
 returns : tie.Need-returns Inv-loop μ-loop
 returns c =
     let g = c .before .before .before .before .before .before .before .before .before .before .before in
-    let loop = g .before .before .before .before .before .before in
-    let v = loop .loop in
-    let s = start loop in
-    let k = fits (g .before .before .before .before .before) in (
+    let v = loop g .loop in
+    let s = start (loop g) in (
       refused-on (s .pre .1 .0 .0) (v .inv .4 .3) (g .before .before .before .before .before .loop-test .taken) (s .pre .1 .0 .1)
-          (v .interval / s .args .frame - 0) (sub-zero _) (omega (arith, v .inv .0)) (omega (arith, v .inv .1))
+          (v .interval / s .args .frame - 0) (sub-zero _) (v .inv .0) (v .inv .1)
           (c .before .placed .given .0 .0) (g .add-group .result) _ _ _ _ _ _ (g .add-group .ensures .0) (c .before .placed .given .1),
-      λ z. let y : _≡_ {A = ℕ} 0 1 = cc in absurd (omega arith),
+      no-frame-not-lawful,
     )
 
 enum-told : tie.Need-enum-told Inv-loop μ-loop
-enum-told c = search needs
+enum-told c = c .match .keys2
 
 next-interval-requires : tie.Need-next-interval-requires Inv-loop μ-loop
 next-interval-requires c κs = search needs
@@ -142,40 +150,38 @@ loop-less c =
 loop-again : tie.Need-loop-again Inv-loop μ-loop
 loop-again c =
     let g = c .before .before .before .before .before .before .before .before .before .before .before in
-    let loop = g .before .before .before .before .before .before in
-    let v = loop .loop in
-    let s = start loop in
-    let k = fits (g .before .before .before .before .before) in
-    let part = v .interval / s .args .frame - 0 in
+    let v = loop g .loop in
+    let s = start (loop g) in
+    let l = g .add-group .last .1 .1 .1 .1 in
+    let k = g .add-group .kept .1 .1 .1 .1 in
     let on =
     next-on (s .pre .1 .0 .0) (v .inv .4 .3) (g .before .before .before .before .before .loop-test .taken) (s .pre .1 .0 .1)
-    part (sub-zero _) (omega (arith, v .inv .0)) (omega (arith, v .inv .1))
-    (g .add-group .result) (g .add-group .last .1 .1 .1 .1 .0) (g .add-group .last .1 .1 .1 .1 .1 .0) (g .add-group .last .1 .1 .1 .1 .1 .1 .0) (g .add-group .last .1 .1 .1 .1 .1 .1 .1 .0)
-    (g .add-group .kept .1 .1 .1 .1 .0) (g .add-group .kept .1 .1 .1 .1 .1 .0) (g .add-group .ensures .0) (c .before .enum-told .given .1) in (
-      length-front (v .contents) (g .add-group .last .1 .1 .1 .1 .0) part (g .add-group .kept .1 .1 .1 .1 .0) ∙ v .inv .0,
-      length-front (v .limits) (g .add-group .last .1 .1 .1 .1 .1 .0) part (g .add-group .kept .1 .1 .1 .1 .1 .0) ∙ v .inv .1,
-      g .add-group .kept .1 .1 .1 .1 .1 .1 .0 ∙ v .inv .2,
-      g .add-group .kept .1 .1 .1 .1 .1 .1 .1 .0 ∙ v .inv .3,
+    (v .interval / s .args .frame - 0) (sub-zero _) (v .inv .0) (v .inv .1)
+    (g .add-group .result) (l .0) (l .1 .0) (l .1 .1 .0) (l .1 .1 .1 .0) (k .0) (k .1 .0) (g .add-group .ensures .0) (c .before .enum-told .given .1) in (
+      kept g .0,
+      kept g .1,
+      kept g .2,
+      kept g .3,
       (
         v .interval,
         v .inv .4 .1 ++ (v .interval ∷ []),
         on .0,
         rw (c .next-interval .ensures) (on .1),
-        housed-on (s .args .frame) (v .width) (v .interval) (s .args .list .now) (v .frames) (g .add-group .last .1 .1 .1 .1 .1 .1 .0) (v .inv .4 .1) (v .inv .4 .3 .grown .next (g .before .before .before .before .before .loop-test .taken) .2) (v .inv .4 .4) k (g .add-group .ensures .1 (c .before .enum-told .given .1)),
+        housed-on (s .args .frame) (v .width) (v .interval) (s .args .list .now) (v .frames) (l .1 .1 .0) (v .inv .4 .1) (v .inv .4 .3 .grown .next (g .before .before .before .before .before .loop-test .taken) .2) (v .inv .4 .4) (fits (g .before .before .before .before .before)) (g .add-group .ensures .1 (c .before .enum-told .given .1)),
       ),
     )
 
 same-length-5 : tie.Need-same-length-5 Inv-loop μ-loop
-same-length-5 c = search needs
+same-length-5 c = c .before .loop .inv .0 ∙ full (start (c .before)) .0
 
 same-length-6 : tie.Need-same-length-6 Inv-loop μ-loop
-same-length-6 c = search needs
+same-length-6 c = c .before .loop .inv .1 ∙ full (start (c .before)) .1
 
 same-length-7 : tie.Need-same-length-7 Inv-loop μ-loop
-same-length-7 c = search needs
+same-length-7 c = c .before .loop .inv .2
 
 same-length-8 : tie.Need-same-length-8 Inv-loop μ-loop
-same-length-8 c = search needs
+same-length-8 c = c .before .loop .inv .3
 
 returns-2 : tie.Need-returns-2 Inv-loop μ-loop
 returns-2 c = let r = c .before .loop .inv .4 in (upto-end (r .3) (c .loop-test .left), λ z. rw (sym (grown-all (r .3 .grown) (c .loop-test .left))) (r .4))

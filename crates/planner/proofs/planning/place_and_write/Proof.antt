@@ -1,7 +1,7 @@
 -- `planner::planning::place_and_write` meets its contract. Assumes nothing.
-use mathlib.Core.Path.{_≡_, ap, _∙_}
+use mathlib.Core.Path.{_≡_, sym, ap, _∙_}
 use Prim.Native.Nat.{ℕ, _-_, _/_, _≤_}
-use native.Mathlib.Nat.{sub-zero}
+use native.Mathlib.Nat.{sub-zero, le-of-eq}
 use native.Mathlib.Omega.{arith}
 use lib.ListN.{length, length-take}
 use Rattle.lists.proofs.Records.{length-flows}
@@ -18,6 +18,17 @@ start c = c .before .before .before .before .before .before .before .before .bef
 
 abbrev placed : tie.After-enum-told → tie.After-place-all
 placed c = c .before .before .before .before .before .before
+
+-- each array is as long as it was made
+made : (c : tie.After-empty) → let r = c .empty .result in (256 ≡ length (r .contents)) × (256 ≡ length (r .limits)) × (128 ≡ length (r .frames)) × (128 ≡ length (r .bases))
+made c = let e = c .empty .ensures in (sym (ap length (e .0 .0)), sym (ap length (e .0 .1)), sym (ap length (e .1 .0)), sym (ap length (e .1 .1)))
+
+-- and stays so
+kept : (c : tie.After-place-all) → let l = c .place-all .last .1 .1 in (256 ≡ length (l .0)) × (256 ≡ length (l .1 .0)) × (128 ≡ length (l .1 .1 .0)) × (128 ≡ length (l .1 .1 .1 .0))
+kept c =
+    let m = made (c .before .before .before .before .before .before .before .before .before) in
+    let k = c .place-all .kept .1 .1 in
+    (m .0 ∙ sym (k .0), m .1 ∙ sym (k .1 .0), m .2 ∙ sym (k .1 .1 .0), m .3 ∙ sym (k .1 .1 .1 .0))
 
 facts : (c : tie.Start) → let f = c .args .facts in let fs = flowsOf (c .args .list .now) in (f .cycle ≡ cycle fs) × (f .frame ≡ frame fs) × (f .grants ≡ grants fs) × (f .load ≡ load fs)
 facts c = facts-are (c .args .facts) (flowsOf (c .args .list .now)) (c .pre .1)
@@ -44,27 +55,27 @@ empty-requires : tie.Need-empty-requires
 empty-requires c κs = search needs
 
 slice-aggregate-place-all : tie.Need-slice-aggregate-place-all
-slice-aggregate-place-all c = search needs
+slice-aggregate-place-all c = made (c .before .before .before .before .before) .0
 
 slice-aggregate-place-all-2 : tie.Need-slice-aggregate-place-all-2
-slice-aggregate-place-all-2 c = search needs
+slice-aggregate-place-all-2 c = made (c .before .before .before .before .before .before) .1
 
 slice-aggregate-place-all-3 : tie.Need-slice-aggregate-place-all-3
-slice-aggregate-place-all-3 c = search needs
+slice-aggregate-place-all-3 c = made (c .before .before .before .before .before .before .before) .2
 
 slice-aggregate-place-all-4 : tie.Need-slice-aggregate-place-all-4
-slice-aggregate-place-all-4 c = search needs
+slice-aggregate-place-all-4 c = made (c .before .before .before .before .before .before .before .before) .3
 
 place-all-requires : tie.Need-place-all-requires
 place-all-requires c κs =
     let s = c .before .before .before .before .before .before .before .before .before .before .before in
-    let e = c .before .before .before .before .before .before .before .before .empty .ensures in
+    let e = c .before .before .before .before .before .before .before .before in
     let n = length-flows (s .args .list .now) in
     let few = s .pre .0 .few in
-    ((omega (arith, ap length (e .1 .0), few), omega (arith, ap length (e .1 .1), few)), ((s .pre .0, facts s .1), e .0))
+    ((omega (arith, made e .2, few), omega (arith, made e .3, few)), ((s .pre .0, facts s .1), e .empty .ensures .0))
 
 enum-known-placed : tie.Need-enum-known-placed
-enum-known-placed c = search needs
+enum-known-placed c = c .match .keys1
 
 returns : tie.Need-returns
 returns c =
@@ -75,7 +86,7 @@ returns c =
     answer-refused (a .list .now) (a .room .now) (s .pre .0) (a .facts .frame) (facts s .1) (p .last .1 .1 .0) (p .last .1 .1 .1 .0) (p .last .1 .1 .1 .1 .0) (p .last .1 .1 .1 .1 .1 .0) (p .result) (c .before .placed .given .0 .0) (p .ensures .0) (c .before .placed .given .1)
 
 enum-told : tie.Need-enum-told
-enum-told c = search needs
+enum-told c = c .match .keys2
 
 div-width : tie.Need-div-width
 div-width c = let s = start (placed c) in omega (arith, frame-pos (flowsOf (s .args .list .now)) (s .pre .0), facts s .1)
@@ -98,29 +109,28 @@ part-write-grants-start c = search needs
 part-write-grants-end : tie.Need-part-write-grants-end
 part-write-grants-end c =
     let p = placed (c .before .before .before .before .before) in
-    omega (arith, frames (start p), p .place-all .kept .1 .1 .0, ap length (p .before .before .before .before .before .before .before .before .before .empty .ensures .0 .0))
+    omega (arith, frames (start p), kept p .0)
 
 slice-aggregate-write-grants : tie.Need-slice-aggregate-write-grants
-slice-aggregate-write-grants c = search needs
+slice-aggregate-write-grants c = kept (c .before .before .before .before .before .before .before .before .before .before .before .before .before) .2
 
 slice-aggregate-write-grants-2 : tie.Need-slice-aggregate-write-grants-2
-slice-aggregate-write-grants-2 c = search needs
+slice-aggregate-write-grants-2 c = kept (c .before .before .before .before .before .before .before .before .before .before .before .before .before .before) .3
 
 slice-aggregate-write-grants-3 : tie.Need-slice-aggregate-write-grants-3
-slice-aggregate-write-grants-3 c = search needs
+slice-aggregate-write-grants-3 c = kept (c .before .before .before .before .before .before .before .before .before .before .before .before .before .before .before) .1
 
 write-grants-requires : tie.Need-write-grants-requires
 write-grants-requires c κs =
     let d = c .before .before .before .before .before .before .before .before .before .before in
     let p = placed d in
     let s = start p in
-    let e = p .before .before .before .before .before .before .before .before .before .empty .ensures in
-    let k = p .place-all .kept in
+    let k = kept p in
     let S = standing d in (
       (
-        omega (arith, k .1 .1 .1 .1 .0, ap length (e .1 .0)),
-        omega (arith, k .1 .1 .1 .0, ap length (e .0 .1)),
-        omega (arith, k .1 .1 .1 .1 .1 .0, ap length (e .1 .1)),
+        le-of-eq (k .2),
+        le-of-eq (k .1),
+        le-of-eq (k .3),
         omega (arith, length-take (s .args .facts .cycle / s .args .facts .frame - 0) (p .place-all .last .1 .1 .0), frames s),
         omega (arith, length-take (s .args .facts .cycle / s .args .facts .frame - 0) (p .place-all .last .1 .1 .0), ap (λ (x : ℕ). x / s .args .facts .frame) (facts s .0)),
       ),
@@ -134,7 +144,7 @@ add-t43 : tie.Need-add-t43
 add-t43 c = omega (arith, grants-fit (c .before .before .before .before .before .before .before .before .before .before .before .before .before .before .before))
 
 same-length : tie.Need-same-length
-same-length c = search needs
+same-length c = let w = c .before .before .before .before in w .write-grants .kept .1 .1 .1 .1 .1 .1 .0 ∙ w .before .before .before .before .before .before .before .before .before .write-head .kept .1 .1 .1 .0
 
 returns-2 : tie.Need-returns-2
 returns-2 c =

@@ -6,7 +6,7 @@ use lib.ListN.{length, drop, getD}
 use mathlib.Core.Bool.{false}
 use mathlib.Core.Logic.{⊎-elim}
 use Rattle.planner.specs.Cells.{runs, opens, first}
-use Rattle.planner.proofs.Runs.{runs-out, runs-stop, runs-on, stops-in, opens-full, opens-room, first-here, first-later, first-none}
+use Rattle.planner.proofs.Runs.{carried, runs-out, runs-stop, runs-on, stops-in, opens-full, opens-room, first-here, first-later, first-none}
 use Rattle.planner.proofs.Starts.{first-from}
 use borrow.Author.Needs.{needs}
 use Rattle.planner.proofs.search.first_lawful.Statement.{statement}
@@ -44,7 +44,7 @@ frames-holds : tie.Need-frames-holds Inv-loop μ-loop Inv-frames μ-frames
 frames-holds c =
     let s = c .before .before in
     let a = s .args in
-    (s .pre .1 .0 .0, s .pre .1 .0 .1, first-from (a .frame) (a .contents .now) (a .limits .now) (omega arith) (a .from .at) (a .from .over) (s .pre .1) (a .size))
+    (s .pre .1 .0 .0, s .pre .1 .0 .1, first-from (a .frame) (a .contents .now) (a .limits .now) (s .pre .0 .0) (a .from .at) (a .from .over) (s .pre .1) (a .size))
 
 mul-filled : tie.Need-mul-filled Inv-loop μ-loop Inv-frames μ-frames
 mul-filled c = search needs
@@ -70,11 +70,13 @@ add-next c = search needs
 loop-holds : tie.Need-loop-holds Inv-loop μ-loop Inv-frames μ-frames
 loop-holds c =
     let p = c .before .before .before .before in
-    let a = p .before .before .before .args in (
-      omega arith,
+    let s = p .before .before .before in
+    let a = s .args in
+    let h = c .before .before .before .if1 .left in (
+      omega (arith, h),
       omega (arith, c .past .ensures, cell (c .before .before)),
       rw (c .past .ensures)
-          (sym (opens-room (a .contents .now) (a .limits .now) (omega arith) (a .frame) (p .frames .k) (omega arith) (a .size) (p .frames .over) (omega arith))),
+          (sym (opens-room (a .contents .now) (a .limits .now) (s .pre .0 .0) (a .frame) (p .frames .k) h (a .size) (p .frames .over) (c .before .if2 .taken))),
     )
 
 stopped-requires : tie.Need-stopped-requires Inv-loop μ-loop Inv-frames μ-frames
@@ -106,11 +108,12 @@ loop-again c =
     let g = c .before .before in
     let v = g .before .before .before .loop in
     let p = g .before .before .before .before .before .before .before .before in
-    let a = p .before .before .before .args in (
+    let s = p .before .before .before in
+    let a = s .args in (
       omega (arith, inside g),
-      omega (arith, c .past2 .ensures, pushed (c .before), v .inv),
+      rw (c .past2 .ensures) (carried (a .frame) (v .push) (v .next + 1) (getD (a .contents .now) (v .next) 0) (v .inv .1) (pushed (c .before))),
       rw (c .past2 .ensures)
-          (sym (runs-on (a .contents .now) (a .limits .now) (omega arith) (a .frame) (v .next) (v .push) (g .before .before .if3 .left) (sym (g .before .stopped .ensures) ∙ g .if4 .left))
+          (sym (runs-on (a .contents .now) (a .limits .now) (s .pre .0 .0) (a .frame) (v .next) (v .push) (g .before .before .if3 .left) (sym (g .before .stopped .ensures) ∙ g .if4 .left))
           ∙ v .inv .2),
     )
 
@@ -127,33 +130,37 @@ frames-again : tie.Need-frames-again Inv-loop μ-loop Inv-frames μ-frames
 frames-again c =
     let j = c .before in
     let p = j .before .before .before in
-    let a = p .before .before .before .args in
+    let s = p .before .before .before in
+    let a = s .args in
     let cs = a .contents .now in
     let ls = a .limits .now in
     let k = p .frames .k in
-    let same : length ls ≡ length cs = omega arith in
+    let same = s .pre .0 .0 in
+    let h = j .before .before .if1 .left in
     let shut : opens (a .frame) (a .size) (p .frames .over) (drop k cs) (drop k ls) ≡ false =
     ⊎-elim
     (λ u. sym (u .2 .inv .2) ∙ runs-stop cs ls same (a .frame) (u .2 .next) (u .2 .push) (u .3 .left) (sym (u .4 .ensures) ∙ u .5 .taken))
-    (λ u. opens-full cs ls same (a .frame) k (omega arith) (a .size) (p .frames .over) (omega (arith, u .left)))
+    (λ u. opens-full cs ls same (a .frame) k h (a .size) (p .frames .over) (u .left))
     (j .if2 .came) in (
       omega arith,
-      omega (arith, c .past3 .ensures, cell (j .before)),
-      rw (c .past3 .ensures) (sym (first-later cs ls same (a .frame) k (omega arith) (a .size) (p .frames .over) k shut) ∙ p .frames .inv .2),
+      rw (c .past3 .ensures) (carried (a .frame) (p .frames .over) k (getD cs k 0) (p .frames .inv .1) (cell (j .before))),
+      rw (c .past3 .ensures) (sym (first-later cs ls same (a .frame) k h (a .size) (p .frames .over) k shut) ∙ p .frames .inv .2),
     )
 
 returns : tie.Need-returns Inv-loop μ-loop Inv-frames μ-frames
 returns c =
     let p = c .before in
-    let a = p .before .before .before .args in
-    sym (first-none (a .contents .now) (a .limits .now) (omega arith) (a .frame) (p .frames .k) (a .size) (p .frames .over) (p .frames .k) (c .if1 .taken)) ∙ p .frames .inv .2
+    let s = p .before .before .before in
+    let a = s .args in
+    sym (first-none (a .contents .now) (a .limits .now) (s .pre .0 .0) (a .frame) (p .frames .k) (a .size) (p .frames .over) (p .frames .k) (c .if1 .taken)) ∙ p .frames .inv .2
 
 returns-2 : tie.Need-returns-2 Inv-loop μ-loop Inv-frames μ-frames
 returns-2 c =
     let v = c .before .loop in
     let p = c .before .before .before .before .before .before in
-    let a = p .before .before .before .args in
-    sym (first-here (a .contents .now) (a .limits .now) (omega arith) (a .frame) (p .frames .k) (omega arith) (a .size) (p .frames .over) (p .frames .k)
+    let s = p .before .before .before in
+    let a = s .args in
+    sym (first-here (a .contents .now) (a .limits .now) (s .pre .0 .0) (a .frame) (p .frames .k) (c .before .before .before .before .before .if1 .left) (a .size) (p .frames .over) (p .frames .k)
     (sym (v .inv .2) ∙ runs-out (a .frame) (v .push) (drop (v .next) (a .contents .now)) (drop (v .next) (a .limits .now)) (c .if3 .taken)))
     ∙ p .frames .inv .2
 
