@@ -33,13 +33,9 @@ unfolding decimal
 length-decimal v = length-digits (width v) v
 
 -- k is its width, as the calls give it
-module _ (v k : ℕ) (e : k ≡ width v) where
-  pub width-is : k ≡ length (decimal v)
-  width-is = e ∙ sym (length-decimal v)
-
-  pub digits-is : digits k v ≡ decimal v
-  unfolding decimal
-  digits-is = ap (λ (n : ℕ). digits n v) e
+pub digits-is : (v k : ℕ) → k ≡ width v → digits k v ≡ decimal v
+unfolding decimal
+digits-is v k e = ap (λ (n : ℕ). digits n v) e
 
 -- the width of a number, by its range
 module _ (v : ℕ) where

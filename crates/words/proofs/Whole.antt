@@ -65,13 +65,9 @@ unfolding numeral
 length-numeral v = length-digits (figures v) v
 
 -- k is how many it has, as the calls give it
-module _ (v k : ℕ) (e : k ≡ figures v) where
-  pub figures-is : k ≡ length (numeral v)
-  figures-is = e ∙ sym (length-numeral v)
-
-  pub numeral-is : digits k v ≡ numeral v
-  unfolding numeral
-  numeral-is = ap (λ (n : ℕ). digits n v) e
+pub numeral-is : (v k : ℕ) → k ≡ figures v → digits k v ≡ numeral v
+unfolding numeral
+numeral-is v k e = ap (λ (n : ℕ). digits n v) e
 
 -- below 10,000 it is the number in decimal as the sheet has it
 figures-width : (v : ℕ) → v < 10000 → figures v ≡ width v

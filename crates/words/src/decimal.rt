@@ -24,7 +24,7 @@ pub fn width(v: u16) -> usize
 }
 
 // Writes the last k digits of a number at a place of the room; the rest stays.
-pub(crate) fn put_digits(v: u64, k: usize, room: &mut [u8], at: usize)
+fn put_digits(v: u64, k: usize, room: &mut [u8], at: usize)
     requires { ⌜ at + k ≤ length (now room) ⌝ }
     ensures { λ _. ⌜ now (room .exit) ≡ sets (now (room .entry)) at (digits k v) ⌝ }
 {
@@ -38,16 +38,23 @@ pub(crate) fn put_digits(v: u64, k: usize, room: &mut [u8], at: usize)
     }
 }
 
-// Writes a number below 10,000 in decimal at a place of the room and answers the place behind it; the rest stays. Where it
-// does not fit all of the room stays, and the answer is the place itself.
+// Writes the last k digits of a number at a place of the room and answers the place behind them; the rest stays. Where they do
+// not fit all of the room stays, and the answer is the place itself.
+pub(crate) fn put_last(v: u64, k: usize, room: &mut [u8], at: usize) -> usize
+    ensures { λ r. ⌜ r ≡ behind at (digits k v) (length (now (room .entry))) ⌝ }
+    ensures { λ _. ⌜ now (room .exit) ≡ putAt (now (room .entry)) at (digits k v) ⌝ }
+{
+    if !fits(at, k, room.len()) {
+        return at;
+    }
+    put_digits(v, k, room, at);
+    at + k
+}
+
+// Writes a number below 10,000 in decimal, likewise.
 pub fn put_number(v: u16, room: &mut [u8], at: usize) -> usize
     ensures { λ r. ⌜ r ≡ behind at (decimal v) (length (now (room .entry))) ⌝ }
     ensures { λ _. ⌜ now (room .exit) ≡ putAt (now (room .entry)) at (decimal v) ⌝ }
 {
-    let k = width(v);
-    if !fits(at, k, room.len()) {
-        return at;
-    }
-    put_digits(v as u64, k, room, at);
-    at + k
+    put_last(v as u64, width(v), room, at)
 }

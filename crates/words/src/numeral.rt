@@ -4,8 +4,7 @@ ghost use Prim.Native.Nat.{_≤_};
 ghost use lib.ListN.{length};
 ghost use Rattle.words.specs.Whole.{figures, numeral};
 ghost use Rattle.words.specs.Places.{behind, putAt};
-use crate::decimal::put_digits;
-use crate::word::fits;
+use crate::decimal::put_last;
 
 // How many digits a number has.
 fn figures(v: u64) -> usize
@@ -26,10 +25,5 @@ pub fn put_numeral(v: u64, room: &mut [u8], at: usize) -> usize
     ensures { λ r. ⌜ r ≡ behind at (numeral v) (length (now (room .entry))) ⌝ }
     ensures { λ _. ⌜ now (room .exit) ≡ putAt (now (room .entry)) at (numeral v) ⌝ }
 {
-    let k = figures(v);
-    if !fits(at, k, room.len()) {
-        return at;
-    }
-    put_digits(v, k, room, at);
-    at + k
+    put_last(v, figures(v), room, at)
 }
