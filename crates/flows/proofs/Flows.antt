@@ -30,6 +30,14 @@ pub record Keeps (f : Flow) : Type 0 where
   pub fitting : f .size ≤ f .interval
   pub tolerable : f .jitter < f .interval
 
+-- out of its tests
+pub keeps-by : (f : Flow) → among 1 1023 (f .number) ≡ true → among 1 4095 (f .size) ≡ true → among 1 4096 (f .interval) ≡ true → f .size ≤ f .interval → f .jitter < f .interval → Keeps f
+keeps-by f a b d e g =
+    let n = among-both 1 1023 (f .number) a in
+    let s = among-both 1 4095 (f .size) b in
+    let i = among-both 1 4096 (f .interval) d in
+    record { numbered = n .0; number-le = n .1; sized = s .0; size-le = s .1; timed = i .0; interval-le = i .1; fitting = e; tolerable = g }
+
 pub keeps-is : (f : Flow) → keeps f ≡ true → Keeps f
 unfolding keeps
 keeps-is f h =
@@ -37,19 +45,7 @@ keeps-is f h =
     let b = and-both (among 1 4095 (f .size)) _ (a .1) in
     let d = and-both (among 1 4096 (f .interval)) _ (b .1) in
     let e = and-both (leb (f .size) (f .interval)) _ (d .1) in
-    let n = among-both 1 1023 (f .number) (a .0) in
-    let s = among-both 1 4095 (f .size) (b .0) in
-    let i = among-both 1 4096 (f .interval) (d .0) in
-    record {
-      numbered = n .0;
-      number-le = n .1;
-      sized = s .0;
-      size-le = s .1;
-      timed = i .0;
-      interval-le = i .1;
-      fitting = leb-true _ _ (e .0);
-      tolerable = ltb-true _ _ (e .1);
-    }
+    keeps-by f (a .0) (b .0) (d .0) (leb-true _ _ (e .0)) (ltb-true _ _ (e .1))
 
 -- what the rule answers, both ways
 pub rule-kept : (f : Flow) → Keeps f → Kept ≡ rule f

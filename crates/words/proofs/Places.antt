@@ -1,13 +1,13 @@
 -- A text written at a place of a room, each way that it can end. Assumes nothing.
 use mathlib.Core.Path.{_≡_, refl, sym, ap, _∙_}
-use mathlib.Core.Bool.{true, false}
+use mathlib.Core.Bool.{Bool, true, false, not}
 use mathlib.Core.List.{List}
 use Prim.Native.Nat.{ℕ, _+_, _-_, _≤_, _<_}
 use native.Mathlib.Omega.{arith}
 use lib.Dec.{leb}
 use lib.ListN.{length}
 use lib.Seq.{sets}
-use borrow.Author.Tests.{le-leb, lt-leb, leb-true}
+use borrow.Author.Tests.{le-leb, lt-leb, leb-true, not-false}
 use Rattle.logic.proofs.Tests.{by-lt}
 use Rattle.words.specs.Places.{within, behind, putAt}
 
@@ -24,6 +24,10 @@ module _ (at k n : ℕ) where
   pub within-le : within at k n ≡ true → at + k ≤ n
   unfolding within
   within-le e = leb-true (at + k) n e
+
+  -- where the test of it, as the calls give it, was passed
+  pub passed-le : (r : Bool) → r ≡ within at k n → not r ≡ false → at + k ≤ n
+  passed-le r e p = within-le (sym e ∙ not-false r p)
 
 module _ (at : ℕ) (w room : List ℕ) where
   -- k is the text's length, as the calls give it

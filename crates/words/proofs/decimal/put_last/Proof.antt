@@ -4,7 +4,7 @@ use mathlib.Core.Path.{sym, _∙_}
 use native.Mathlib.Omega.{arith}
 use borrow.Author.Tests.{not-true, not-false}
 use Rattle.words.proofs.Decimals.{length-digits}
-use Rattle.words.proofs.Places.{within-le, put-short, put-done}
+use Rattle.words.proofs.Places.{passed-le, put-short, put-done}
 use borrow.Author.Needs.{needs}
 use Rattle.words.proofs.decimal.put_last.Statement.{statement}
 use Rattle.words.proofs.decimal.put_last.Tie as tie
@@ -19,14 +19,10 @@ returns c =
     put-short (a .at) _ (a .room .now) _ (sym (length-digits (a .k) (a .v))) (sym (f .fits2 .ensures) ∙ not-true _ (c .if1 .taken))
 
 put-digits-requires : tie.Need-put-digits-requires
-put-digits-requires c κs =
-    let i = c .before in
-    omega (arith, within-le _ _ _ (sym (i .before .fits2 .ensures) ∙ not-false _ (i .if1 .left)))
+put-digits-requires c κs = let i = c .before in passed-le _ _ _ _ (i .before .fits2 .ensures) (i .if1 .left)
 
 add-result : tie.Need-add-result
-add-result c =
-    let i = c .before .before .before .before in
-    omega (arith, within-le _ _ _ (sym (i .before .fits2 .ensures) ∙ not-false _ (i .if1 .left)))
+add-result c = let i = c .before .before .before .before in omega (arith, passed-le _ _ _ _ (i .before .fits2 .ensures) (i .if1 .left))
 
 same-length : tie.Need-same-length
 same-length c = search needs

@@ -3,7 +3,7 @@
 use mathlib.Core.Path.{refl, sym, _∙_}
 use native.Mathlib.Omega.{arith}
 use borrow.Author.Tests.{not-true, not-false}
-use Rattle.words.proofs.Places.{within-le, put-short, put-done}
+use Rattle.words.proofs.Places.{passed-le, put-short, put-done}
 use borrow.Author.Needs.{needs}
 use Rattle.words.proofs.word.put.Statement.{statement}
 use Rattle.words.proofs.word.put.Tie as tie
@@ -18,14 +18,10 @@ returns c =
     put-short (s .args .at) (s .args .w .now) (s .args .room .now) _ refl (sym (f .fits2 .ensures) ∙ not-true _ (c .if1 .taken))
 
 copy-requires : tie.Need-copy-requires
-copy-requires c κs =
-    let i = c .before in
-    within-le _ _ _ (sym (i .before .fits2 .ensures) ∙ not-false _ (i .if1 .left))
+copy-requires c κs = let i = c .before in passed-le _ _ _ _ (i .before .fits2 .ensures) (i .if1 .left)
 
 add-result : tie.Need-add-result
-add-result c =
-    let i = c .before .before .before .before in
-    omega (arith, within-le _ _ _ (sym (i .before .fits2 .ensures) ∙ not-false _ (i .if1 .left)))
+add-result c = let i = c .before .before .before .before in omega (arith, passed-le _ _ _ _ (i .before .fits2 .ensures) (i .if1 .left))
 
 same-length : tie.Need-same-length
 same-length c = search needs

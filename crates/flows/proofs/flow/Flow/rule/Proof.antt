@@ -1,23 +1,20 @@
 -- `flows::flow::Flow::rule` meets its contract: each test that finds fault contradicts the rule.
 -- Assumes nothing.
 use mathlib.Core.Path.{_≡_, sym, _∙_}
-use mathlib.Core.Bool.{Bool, true, false, not}
+use mathlib.Core.Bool.{Bool, true, not}
 use Prim.Native.Nat.{ℕ, _≤_}
 use native.Mathlib.Omega.{arith}
 use borrow.Author.Tests.{le-leb, not-true, not-false}
 use borrow.Author.Needs.{needs}
 use Rattle.logic.specs.Numbers.{among}
-use Rattle.logic.proofs.Tests.{true-not-false, among-both}
-use Rattle.flows.proofs.Flows.{rule-kept, rule-broken}
+use Rattle.logic.proofs.Tests.{true-not-false}
+use Rattle.flows.proofs.Flows.{keeps-by, rule-kept, rule-broken}
 use Rattle.flows.proofs.flow.Flow.rule.Statement.{statement}
 use Rattle.flows.proofs.flow.Flow.rule.Tie as tie
 
--- what `among` said of a number that is in its range, and of one that may be
+-- `among` does not say of a number in its range that it is out of it
 outside : (a b x : ℕ) (r : Bool) → r ≡ among a b x → not r ≡ true → a ≤ x → x ≤ b → ⊥
 outside a b x r e n l h = let t : among a b x ≡ true = rw (le-leb a x l, le-leb x b h) in true-not-false (sym t ∙ sym e ∙ not-true r n)
-
-inside : (a b x : ℕ) (r : Bool) → r ≡ among a b x → not r ≡ false → (a ≤ x) × (x ≤ b)
-inside a b x r e n = among-both a b x (sym e ∙ not-false r n)
 
 among-requires : tie.Need-among-requires
 among-requires c κs = search needs
@@ -48,20 +45,13 @@ returns-6 c =
     let e = c .before .before .before .before in
     let d = e .before .before in
     let b = d .before .before in
-    let n = inside _ _ _ _ (b .before .among .ensures) (b .if1 .left) in
-    let s = inside _ _ _ _ (d .before .among2 .ensures) (d .if2 .left) in
-    let i = inside _ _ _ _ (e .before .among3 .ensures) (e .if3 .left) in
     rule-kept _
-    (record {
-      numbered = n .0;
-      number-le = n .1;
-      sized = s .0;
-      size-le = s .1;
-      timed = i .0;
-      interval-le = i .1;
-      fitting = omega arith;
-      tolerable = omega arith;
-    })
+    (keeps-by _
+    (sym (b .before .among .ensures) ∙ not-false _ (b .if1 .left))
+    (sym (d .before .among2 .ensures) ∙ not-false _ (d .if2 .left))
+    (sym (e .before .among3 .ensures) ∙ not-false _ (e .if3 .left))
+    (omega arith)
+    (omega arith))
 
 pub rule-spec : {M : Type 1} → statement M
 rule-spec = tie.close (tie.spec among-requires returns among-requires-2 returns-2 among-requires-3 returns-3 returns-4 returns-5 returns-6)
