@@ -1,7 +1,7 @@
--- Document 01's "Refusal numbers": the number and the place of each refusal. Assumes nothing.
+-- Document 01's "Refusal numbers" and those of document 02: the number and the place of each refusal. Assumes nothing.
 use Prim.Native.Nat.{ℕ}
 use Rattle.refusals.specs.declared.Refusal.{Refusal}
-use Rattle.refusals.specs.declared.Refusal.the-variants.{Length, Head, Count, Field, UsedNumber, Unrelated, Limits, Overload, Room, NoFrame, TableForm, NotRising, OtherCycle, UnknownFlow, GrantCount, Timing, Overlap, PastCycle, WindowEnds, Line}
+use Rattle.refusals.specs.declared.Refusal.the-variants.{Length, Head, Count, Field, UsedNumber, Unrelated, Limits, Overload, Room, NoFrame, TableForm, NotRising, OtherCycle, UnknownFlow, GrantCount, Timing, Overlap, PastCycle, WindowEnds, Line, OutsideSpan, NoOffset}
 
 -- the refusal's number
 abbrev pub number : Refusal → ℕ
@@ -25,6 +25,8 @@ number (Overlap p) = 17
 number (PastCycle p) = 18
 number WindowEnds = 19
 number (Line p) = 20
+number OutsideSpan = 21
+number NoOffset = 22
 
 -- the record or line that it names, counted from 1; 0 where it names none
 abbrev pub place : Refusal → ℕ
@@ -48,3 +50,5 @@ place (Overlap p) = p
 place (PastCycle p) = p
 place WindowEnds = 0
 place (Line p) = p
+place OutsideSpan = 0
+place NoOffset = 0

@@ -1,4 +1,4 @@
-// Document 01's refusals, and the answers that carry one.
+// Document 01's refusals and those that document 02 adds, and the answers that carry one.
 ghost use mathlib.Core.Path.{_≡_};
 ghost use Rattle.refusals.specs.Refusals.{number, place};
 
@@ -45,6 +45,10 @@ pub enum Refusal {
     WindowEnds,
     // 20: a sheet line not of its form: line
     Line(usize),
+    // 21: the new flow's interval is below the frame or over the cycle
+    OutsideSpan,
+    // 22: no offset at which the new flow fits
+    NoOffset,
 }
 
 // What tests answer.
@@ -85,6 +89,8 @@ impl Refusal {
             Refusal::PastCycle(_) => 18,
             Refusal::WindowEnds => 19,
             Refusal::Line(_) => 20,
+            Refusal::OutsideSpan => 21,
+            Refusal::NoOffset => 22,
         }
     }
 
@@ -113,6 +119,8 @@ impl Refusal {
             Refusal::PastCycle(p) => p,
             Refusal::WindowEnds => 0,
             Refusal::Line(p) => p,
+            Refusal::OutsideSpan => 0,
+            Refusal::NoOffset => 0,
         }
     }
 }

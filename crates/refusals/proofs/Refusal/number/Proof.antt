@@ -66,6 +66,12 @@ enum-told-19 c = search needs
 enum-told-20 : tie.Need-enum-told-20
 enum-told-20 c = search needs
 
+enum-told-21 : tie.Need-enum-told-21
+enum-told-21 c = search needs
+
+enum-told-22 : tie.Need-enum-told-22
+enum-told-22 c = search needs
+
 returns : tie.Need-returns
 returns c = ap number (sym (c .enum-told .given .1))
 
@@ -126,6 +132,12 @@ returns-19 c = ap number (sym (c .enum-told19 .given .1))
 returns-20 : tie.Need-returns-20
 returns-20 c = ap number (sym (c .enum-told20 .given .1))
 
+returns-21 : tie.Need-returns-21
+returns-21 c = ap number (sym (c .enum-told21 .given .1))
+
+returns-22 : tie.Need-returns-22
+returns-22 c = ap number (sym (c .enum-told22 .given .1))
+
 pub number-spec : {M : Type 1} → statement M
 number-spec =
     tie.close
@@ -150,6 +162,8 @@ number-spec =
     enum-told-18
     enum-told-19
     enum-told-20
+    enum-told-21
+    enum-told-22
     returns
     returns-2
     returns-3
@@ -169,4 +183,6 @@ number-spec =
     returns-17
     returns-18
     returns-19
-    returns-20)
+    returns-20
+    returns-21
+    returns-22)

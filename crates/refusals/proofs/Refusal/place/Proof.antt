@@ -66,6 +66,12 @@ enum-told-9 c = search needs
 enum-known-self-11 : tie.Need-enum-known-self-11
 enum-known-self-11 c = search needs
 
+enum-told-10 : tie.Need-enum-told-10
+enum-told-10 c = search needs
+
+enum-told-11 : tie.Need-enum-told-11
+enum-told-11 c = search needs
+
 returns : tie.Need-returns
 returns c = ap place (sym (c .enum-told .given .1))
 
@@ -126,6 +132,12 @@ returns-19 c = ap place (sym (c .enum-told9 .given .1))
 returns-20 : tie.Need-returns-20
 returns-20 c = ap place (sym (c .before .self11 .given .1))
 
+returns-21 : tie.Need-returns-21
+returns-21 c = ap place (sym (c .enum-told10 .given .1))
+
+returns-22 : tie.Need-returns-22
+returns-22 c = ap place (sym (c .enum-told11 .given .1))
+
 pub place-spec : {M : Type 1} → statement M
 place-spec =
     tie.close
@@ -150,6 +162,8 @@ place-spec =
     enum-known-self-10
     enum-told-9
     enum-known-self-11
+    enum-told-10
+    enum-told-11
     returns
     returns-2
     returns-3
@@ -169,4 +183,6 @@ place-spec =
     returns-17
     returns-18
     returns-19
-    returns-20)
+    returns-20
+    returns-21
+    returns-22)
