@@ -27,11 +27,12 @@ use Rattle.placing.proofs.Passes.{planned-done, planned-length, planned-fits, c
 use Rattle.planner.specs.declared.placed.Placed.{Placed}
 use Rattle.planner.specs.declared.placed.Placed.the-variants.{Lawful, NoFrame}
 use Rattle.planner.specs.Finished.{Finished}
-use Rattle.planner.specs.Rows.{written, Tabled}
+use Rattle.tables.specs.Tables.{recordsAfter}
+use Rattle.planner.specs.Rows.{Tabled}
 use Rattle.planner.specs.Plan.{test10, grantsPlanned, planTable}
 use Rattle.planner.proofs.Bounds.{frame-present, interval-le}
 use Rattle.planner.proofs.Grouping.{no-frame-not-lawful}
-use Rattle.planner.proofs.Printing.{table-written}
+use Rattle.tables.proofs.Writing.{table-written}
 use Rattle.tables.proofs.Meaning.{Fits, length-table}
 
 -- a list's facts, one by one
@@ -102,7 +103,7 @@ module _ (l room : List ℕ) (ok : Accepted (flowsOf l)) (φ : ℕ) (e : φ ≡ 
 
   -- the table stands at the room's front, behind its head
   pub answer-written : (w c n : ℕ) (headed room′ : List ℕ) → c ≡ cycle fs → n ≡ grants fs → place (grants fs) ≤ length room → (S : Standing w)
-      → headed ≡ roomAfter TableHead (headFields n c φ) room → room′ ≡ written 0 (rows φ 0 0 (S .settled)) headed
+      → headed ≡ roomAfter TableHead (headFields n c φ) room → room′ ≡ recordsAfter 0 (rows φ 0 0 (S .settled)) headed
       → (Bytes (place n) ≡ answer (test10 fs) (planTable l) (length room)) × (room′ ≡ writtenRoom (test10 fs) (planTable l) room)
   answer-written w c n headed room′ p q h S u r =
       let gs = rows φ 0 0 (S .settled) in
@@ -111,5 +112,5 @@ module _ (l room : List ℕ) (ok : Accepted (flowsOf l)) (φ : ℕ) (e : φ ≡ 
       let fit : All Fits gs = all-imp _ Fits gs (λ g k. record { flow-lt = k .1; start-lt = omega (arith, k .2, cycle-fits fs ok); late-lt = k .3 }) (planned-fits fs ok gs (S .laid)) in
       let long : place n ≡ length (planTable l) = ap place many ∙ sym (ap length t ∙ length-table c φ gs) in
       ends-written (test10 fs) (planTable l) room (place n) room′ (test10-passed fs gs (S .laid)) (omega arith) long
-      (r ∙ ap (written 0 gs) u
+      (r ∙ ap (recordsAfter 0 gs) u
       ∙ rw (many, t) (table-written c φ gs room fit (omega (arith, ok .grants-le)) (omega (arith, cycle-fits fs ok)) (omega (arith, interval-le fs ok (frame fs) (frame-present fs ok))) (omega arith)))

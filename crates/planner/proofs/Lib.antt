@@ -16,7 +16,6 @@ pub mod Writing
 pub mod Chains
 pub mod Linking
 pub mod Tabling
-pub mod Printing
 pub mod Answering
 pub mod Verdicts
 pub mod Passes

@@ -80,3 +80,8 @@ recordStored g i n = stored TableRecord (fieldsOf g) (n - place i)
 -- the room afterwards
 unfoldable pub recordAfter : Grant → ℕ → List ℕ → List ℕ
 recordAfter g i room = take (place i) room ++ roomAfter TableRecord (fieldsOf g) (drop (place i) room)
+
+-- the room after grants are recordsAfter as records, the first of them as record i
+unfoldable pub recordsAfter : ℕ → List Grant → List ℕ → List ℕ
+recordsAfter i [] room = room
+recordsAfter i (g ∷ gs) room = recordsAfter (suc i) gs (recordAfter g i room)
