@@ -1,18 +1,22 @@
 -- Tests 5 and 6 as the code has them, record by record. Assumes nothing.
-use mathlib.Core.Path.{_≡_, sym, ap, _∙_}
+use mathlib.Core.Path.{_≡_, sym, ap, ap₂, _∙_}
 use mathlib.Core.Bool.{Bool, true, false, _&&_}
-use mathlib.Core.List.{List}
+use mathlib.Core.List.{List, [], _∷_, _++_}
 use Prim.Native.Nat.{ℕ, suc, _+_, _≤_, _<_}
-use lib.ListN.{getD}
+use lib.ListN.{length, getD}
 use Rattle.logic.specs.Lists.{every}
 use Rattle.flows.specs.declared.flow.Flow.{Flow}
 use Rattle.flows.specs.Flows.{noFlow}
 use Rattle.refusals.specs.declared.Checked.the-variants.{Passed, Refused}
-use Rattle.refusals.proofs.Walks.{before, walk-next, walk-here, walk-end}
+use Rattle.refusals.specs.Tests.{_⟫_, unless}
+use Rattle.refusals.proofs.Chains.{unless-yes, unless-no}
+use Rattle.refusals.proofs.Walks.{before, walk-next, walk-here, walk-end, walk-more}
 use Rattle.lists.specs.Lists.{count, flowAt, flowsOf}
+use Rattle.lists.specs.Tests.{newNumber, test5, relatedInterval, test6}
 use Rattle.lists.proofs.Records.{length-flows, flow-is}
 use Rattle.pairing.specs.declared.pairs.Pair.{Pair}
-use Rattle.pairing.specs.Parts.{agreesWith, refusalOf, pairTest, Settled}
+use Rattle.pairing.specs.declared.pairs.Pair.the-variants.{Number, Interval}
+use Rattle.pairing.specs.Parts.{agreesWith, refusalOf, pairTest, Settled, newPairTest, newPairTests}
 
 -- ---- test 5 or 6, record by record
 
@@ -45,3 +49,25 @@ module _ (ok : Flow → Bool) (fs : List Flow) (j k : ℕ) (e : suc k ≡ j) (f 
 
   pub every-here : ok f ≡ false → every ok (before fs noFlow j) ≡ false
   every-here t = opens ∙ rw t
+
+-- ---- one flow more
+
+module _ (fs : List Flow) (f : Flow) where
+  -- it agrees with the n records, or not
+  module _ (pair : Pair) (n : ℕ) (e : n ≡ length fs) (b : Bool) (q : b ≡ agreesWith pair (before fs noFlow n) f) where
+    said : unless b (refusalOf pair (n + 1)) ≡ newPairTest pair fs f
+    said = rw (q, e)
+
+    pub new-agrees : b ≡ true → Passed ≡ newPairTest pair fs f
+    new-agrees t = sym (unless-yes b (refusalOf pair (n + 1)) t) ∙ said
+
+    pub new-disagrees : b ≡ false → Refused (refusalOf pair (n + 1)) ≡ newPairTest pair fs f
+    new-disagrees t = sym (unless-no b (refusalOf pair (n + 1)) t) ∙ said
+
+  -- where the records pass, its test is that of all
+  added-pair : (pair : Pair) → pairTest pair fs ≡ Passed → newPairTest pair fs f ≡ pairTest pair (fs ++ (f ∷ []))
+  added-pair pair e = sym (walk-more noFlow (agreesWith pair) (refusalOf pair) fs f e)
+
+  pub added-pairs : test5 fs ≡ Passed → test6 fs ≡ Passed → newPairTests fs f ≡ (test5 (fs ++ (f ∷ [])) ⟫ test6 (fs ++ (f ∷ [])))
+  unfolding test5 newNumber test6 relatedInterval
+  added-pairs p q = ap₂ _⟫_ (added-pair Number p) (added-pair Interval q)

@@ -2,7 +2,7 @@
 use mathlib.Core.Path.{_≡_}
 use mathlib.Core.Bool.{Bool, true, not}
 use mathlib.Core.List.{List, []}
-use Prim.Native.Nat.{ℕ, _/_, _%_, _^_, _≤_, _<_}
+use Prim.Native.Nat.{ℕ, _+_, _/_, _%_, _^_, _≤_, _<_}
 use lib.Dec.{eqb}
 use lib.ListN.{length, getD}
 use Rattle.logic.specs.Lists.{every}
@@ -11,8 +11,8 @@ use Rattle.flows.specs.Flows.{noFlow}
 use Rattle.refusals.specs.declared.Refusal.{Refusal}
 use Rattle.refusals.specs.declared.Refusal.the-variants.{UsedNumber, Unrelated}
 use Rattle.refusals.specs.declared.Checked.{Checked}
-use Rattle.refusals.specs.Tests.{_⟫_, lowest, against}
-use Rattle.refusals.proofs.Walks.{walk}
+use Rattle.refusals.specs.Tests.{_⟫_, unless, lowest, against}
+use Rattle.refusals.proofs.Walks.{before, walk}
 use Rattle.lists.specs.Facts.{related}
 use Rattle.pairing.specs.declared.pairs.Pair.{Pair}
 use Rattle.pairing.specs.declared.pairs.Pair.the-variants.{Number, Interval}
@@ -42,6 +42,14 @@ Settled pair fs i = walk (refusalOf pair) (agreesWith pair) fs noFlow i ≡ pair
 -- tests 5 and 6, in their order
 abbrev pub pairTests : List Flow → Checked
 pairTests fs = pairTest Number fs ⟫ pairTest Interval fs
+
+-- test 5 or 6 of one flow more, behind records that pass it
+abbrev pub newPairTest : Pair → List Flow → Flow → Checked
+newPairTest pair fs f = unless (agreesWith pair (before fs noFlow (length fs)) f) (refusalOf pair (length fs + 1))
+
+-- tests 5 and 6 of one flow more, in their order
+abbrev pub newPairTests : List Flow → Flow → Checked
+newPairTests fs f = newPairTest Number fs f ⟫ newPairTest Interval fs f
 
 -- x is one of the first k numbers
 abbrev pub OneOf : List ℕ → ℕ → ℕ → Type 0

@@ -1,9 +1,10 @@
 // Tests 5 and 6 of a packed list: what a record must have of each earlier one.
 //
-// They write nothing. The public function asks nothing of its caller.
+// They write nothing. No public function asks anything of its caller.
 mod both;
 mod intervals;
 mod numbers;
 mod pairs;
 
+pub use both::new_pair_tests;
 pub use both::pair_tests;

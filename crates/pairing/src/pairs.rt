@@ -53,7 +53,7 @@ fn agrees(pair: Pair, earlier: Flow, later: Flow) -> bool
 }
 
 // Record i, whose flow is f, agrees with every earlier one.
-fn agrees_with_earlier(pair: Pair, list: &[u8], i: usize, f: Flow) -> bool
+pub(crate) fn agrees_with_earlier(pair: Pair, list: &[u8], i: usize, f: Flow) -> bool
     requires { ⌜ i ≤ count (now list) ⌝ }
     ensures { λ r. ⌜ r ≡ agreesWith pair (before (flowsOf (now (list .entry))) noFlow i) f ⌝ }
 {
@@ -68,7 +68,7 @@ fn agrees_with_earlier(pair: Pair, list: &[u8], i: usize, f: Flow) -> bool
 }
 
 // The refusal of record p, which does not agree with an earlier one.
-fn refusal(pair: Pair, p: usize) -> Refusal
+pub(crate) fn refusal(pair: Pair, p: usize) -> Refusal
     ensures { λ r. ⌜ r ≡ refusalOf pair p ⌝ }
 {
     match pair {

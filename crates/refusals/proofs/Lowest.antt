@@ -1,9 +1,11 @@
 -- The lowest place at which a test fails. Assumes nothing.
 use mathlib.Core.Path.{_≡_, refl}
 use mathlib.Core.Bool.{Bool, true, false}
-use mathlib.Core.List.{List, [], _∷_}
+use mathlib.Core.List.{List, [], _∷_, _++_}
 use Prim.Native.Nat.{ℕ, suc, _+_}
+use native.Mathlib.Nat.{zero-add, suc-add, add-suc}
 use native.Mathlib.Numerals.{add-one}
+use lib.ListN.{length}
 use Rattle.logic.specs.Lists.{All}
 use Rattle.logic.proofs.Tests.{by-test}
 use Rattle.refusals.specs.declared.Refusal.{Refusal}
@@ -27,6 +29,13 @@ module _ (refusal : ℕ → Refusal) where
   lowest-pass n [] e = tt
   lowest-pass n (true ∷ ts) e = (refl, lowest-pass (suc n) ts e)
   lowest-pass n (false ∷ ts) e = refused-not (refusal n) e
+
+  -- one test more, behind tests that pass
+  pub lowest-more : (n : ℕ) (ts : List Bool) (t : Bool) → lowest refusal n ts ≡ Passed → lowest refusal n (ts ++ (t ∷ [])) ≡ unless t (refusal (length ts + n))
+  unfolding lowest
+  lowest-more n [] t e = by-test t (λ q. rw (q, lowest)) (λ q. rw (q, lowest, zero-add))
+  lowest-more n (true ∷ ts) t e = rw (suc-add, ← add-suc) (lowest-more (suc n) ts t e)
+  lowest-more n (false ∷ ts) t e = refused-not (refusal n) e
 
   -- a turn of a loop that looks for it, at place n
   module _ (n : ℕ) (t : Bool) (ts : List Bool) where

@@ -1,7 +1,7 @@
 -- One law for every loop that looks for the lowest place: at entry i it knows what the tests from i on say. Assumes nothing.
 use mathlib.Core.Path.{_≡_, refl, sym, ap, _∙_}
 use mathlib.Core.Bool.{Bool, true, false}
-use mathlib.Core.List.{List, [], _∷_, map}
+use mathlib.Core.List.{List, [], _∷_, _++_, map, append-nil}
 use Prim.Native.Nat.{ℕ, zero, suc, _+_, _≤_, _<_}
 use native.Mathlib.Numerals.{add-one}
 use lib.ListN.{length, getD, drop, drop-of-length-le}
@@ -9,8 +9,8 @@ use lib.Seq.{drop-cons}
 use Rattle.refusals.specs.declared.Refusal.{Refusal}
 use Rattle.refusals.specs.declared.Checked.{Checked}
 use Rattle.refusals.specs.declared.Checked.the-variants.{Passed, Refused}
-use Rattle.refusals.specs.Tests.{lowest, against, after}
-use Rattle.refusals.proofs.Lowest.{lowest-next, lowest-here}
+use Rattle.refusals.specs.Tests.{unless, lowest, against, after}
+use Rattle.refusals.proofs.Lowest.{lowest-more, lowest-next, lowest-here}
 
 -- the entries before entry i, the nearest first
 abbrev pub before {ℓ} : {A : Type ℓ} → List A → A → ℕ → List A
@@ -60,3 +60,37 @@ pub against-after {ℓ} : {A : Type ℓ} (ok : A → A → Bool) (y : A) (seen :
 unfolding against after
 against-after ok y seen x [] = refl
 against-after ok y seen x (z ∷ xs) = rw (against-after ok x (y ∷ seen) z xs, against-after ok x [] z xs)
+
+-- ---- one entry more
+
+module _ {ℓ} {A : Type ℓ} (d : A) where
+  -- the first entry is the last that is seen
+  before-first : (y : A) (xs seen : List A) (i : ℕ) → before (y ∷ xs) d (suc i) ++ seen ≡ before xs d i ++ (y ∷ seen)
+  before-first y xs seen zero = refl
+  before-first y xs seen (suc i) = ap (λ (ys : List A). getD xs i d ∷ ys) (before-first y xs seen i)
+
+  module _ (ok : List A → A → Bool) where
+    length-against : (seen xs : List A) → length (against ok seen xs) ≡ length xs
+    unfolding against
+    length-against seen [] = refl
+    length-against seen (x ∷ xs) = ap suc (length-against (x ∷ seen) xs)
+
+    -- it is tested behind the others, against all of them
+    against-more : (seen xs : List A) (x : A) → against ok seen (xs ++ (x ∷ [])) ≡ against ok seen xs ++ (ok (before xs d (length xs) ++ seen) x ∷ [])
+    unfolding against
+    against-more seen [] x = refl
+    against-more seen (y ∷ xs) x =
+        ap (λ (ts : List Bool). ok seen y ∷ ts)
+        (against-more (y ∷ seen) xs x ∙ ap (λ (ys : List A). against ok (y ∷ seen) xs ++ (ok ys x ∷ [])) (sym (before-first y xs seen (length xs))))
+
+    -- what is said of it, where the entries before it pass
+    pub walk-more : (refusal : ℕ → Refusal) (xs : List A) (x : A) → lowest refusal 1 (against ok [] xs) ≡ Passed
+        → lowest refusal 1 (against ok [] (xs ++ (x ∷ []))) ≡ unless (ok (before xs d (length xs)) x) (refusal (length xs + 1))
+    walk-more refusal xs x e =
+        rw (against-more [] xs x, append-nil, lowest-more refusal 1 (against ok [] xs) (ok (before xs d (length xs)) x) e, length-against [] xs)
+
+-- and where the test looks at no other entry
+pub more-alone {ℓ} : {A : Type ℓ} (refusal : ℕ → Refusal) (ok : A → Bool) (xs : List A) (x : A) → lowest refusal 1 (map ok xs) ≡ Passed
+    → lowest refusal 1 (map ok (xs ++ (x ∷ []))) ≡ unless (ok x) (refusal (length xs + 1))
+more-alone refusal ok xs x e =
+    sym (walk-alone refusal ok (xs ++ (x ∷ [])) x) ∙ walk-more x (λ _ x. ok x) refusal xs x (walk-alone refusal ok xs x ∙ e)

@@ -35,10 +35,9 @@ pub fn window_tests(table: &[u8], a: u64, b: u64) -> Checked
     test_19(table, a, b)
 }
 
-// How many grants stand before the first that starts at a or later, found by halving, since the starts rise.
-fn grants_before(table: &[u8], a: u64) -> usize
-    requires { ⌜ test12 (grantsOf (now table)) ≡ Passed ⌝ }
-    ensures { λ r. ⌜ r ≡ before a (grantsOf (now (table .entry))) ⌝ }
+// How many grants stand before the first that starts at a or later, found by halving, where the starts rise.
+pub fn grants_before(table: &[u8], a: u64) -> usize
+    ensures { λ r. ⌜ (test12 (grantsOf (now (table .entry))) ≡ Passed → r ≡ before a (grantsOf (now (table .entry)))) ⌝ }
 {
     let mut low = 0;
     let mut high = count(table);

@@ -40,28 +40,28 @@ enum-told : tie.Need-enum-told
 enum-told c = search needs
 
 grants-before-requires : tie.Need-grants-before-requires
-grants-before-requires c κs = rising c
+grants-before-requires c κs = search needs
 
 mul-first : tie.Need-mul-first
-mul-first c = omega (arith, edges (c .before), c .grants-before .ensures)
+mul-first c = omega (arith, edges (c .before), c .grants-before .ensures (rising (c .before)))
 
 add-first : tie.Need-add-first
-add-first c = omega (arith, edges (c .before), c .grants-before .ensures)
+add-first c = omega (arith, edges (c .before), c .grants-before .ensures (rising (c .before)))
 
 grants-before-requires-2 : tie.Need-grants-before-requires-2
-grants-before-requires-2 c κs = rising (c .before)
+grants-before-requires-2 c κs = search needs
 
 mul-end : tie.Need-mul-end
-mul-end c = omega (arith, edges (c .before .before), c .grants-before2 .ensures)
+mul-end c = omega (arith, edges (c .before .before), c .grants-before2 .ensures (rising (c .before .before)))
 
 add-end : tie.Need-add-end
-add-end c = omega (arith, edges (c .before .before), c .grants-before2 .ensures)
+add-end c = omega (arith, edges (c .before .before), c .grants-before2 .ensures (rising (c .before .before)))
 
 returns-2 : tie.Need-returns-2
 returns-2 c =
     let p = c .before .before in
     let a = p .before .before .before .before .args in
-    edges-passed (a .table .now) (a .a) (a .b) _ _ (passed p) (c .before .grants-before .ensures) (c .grants-before2 .ensures)
+    edges-passed (a .table .now) (a .a) (a .b) _ _ (passed p) (c .before .grants-before .ensures (rising p)) (c .grants-before2 .ensures (rising p))
 
 pub edges-of-spec : {M : Type 1} → statement M
 edges-of-spec =

@@ -5,8 +5,10 @@ use Prim.Native.Nat.{ℕ, _+_, _-_, _/_, _≤_, zero-le}
 use native.Mathlib.Omega.{arith}
 use lib.ListN.{getD}
 use borrow.Author.Needs.{needs}
+use Rattle.refusals.specs.declared.Checked.the-variants.{Passed}
 use Rattle.tables.specs.declared.packed.Grant.{Grant}
 use Rattle.tables.specs.Tables.{count, grantsOf}
+use Rattle.tables.specs.Form.{test12}
 use Rattle.tables.proofs.Records.{count-small, length-grants, grant-is}
 use Rattle.windows.specs.Window.{before}
 use Rattle.windows.proofs.Rising.{rises-all, before-past, before-upto}
@@ -15,7 +17,8 @@ use Rattle.windows.proofs.stretch.grants_before.Statement.{statement}
 use Rattle.windows.proofs.stretch.grants_before.Tie as tie
 
 abbrev Inv-loop : tie.InvT-loop
-Inv-loop table a low₀ high₀ low high = (low ≤ before a (grantsOf table)) × (before a (grantsOf table) ≤ high) × (high ≤ count table)
+Inv-loop table a low₀ high₀ low high =
+    (low ≤ high) × (high ≤ count table) × (before a (grantsOf table) ≤ high) × (test12 (grantsOf table) ≡ Passed → low ≤ before a (grantsOf table))
 
 abbrev μ-loop : tie.MeasureT-loop
 μ-loop table a low₀ high₀ low high = high - low
@@ -27,7 +30,7 @@ loop-holds : tie.Need-loop-holds Inv-loop μ-loop
 loop-holds c =
     let a = c .before .before .args in
     let gs = grantsOf (a .table .now) in
-    (zero-le, omega (arith, before-le (a .a) gs, length-grants (a .table .now)), omega arith)
+    (zero-le, omega arith, omega (arith, before-le (a .a) gs, length-grants (a .table .now)), λ p. zero-le)
 
 sub-middle : tie.Need-sub-middle Inv-loop μ-loop
 sub-middle c = search needs
@@ -66,9 +69,12 @@ loop-again c =
     let v = b .before .before .loop in
     let s = b .before .before .before .before .before in
     let t = s .args .table .now in
-    let at = read (c .before) in
-    let past = before-past (b .grant-at .result) (s .args .a) (grantsOf t) (rises-all (grantsOf t) (s .pre)) (middle (v .low) (v .high)) (omega (arith, length-grants t)) (omega arith) in
-    (omega arith, v .inv .1, v .inv .2)
+    let at = read (c .before) in (
+      omega arith,
+      v .inv .1,
+      v .inv .2,
+      λ p. let past = before-past (b .grant-at .result) (s .args .a) (grantsOf t) (rises-all (grantsOf t) p) (middle (v .low) (v .high)) (omega (arith, length-grants t)) (omega arith) in omega arith,
+    )
 
 loop-less-2 : tie.Need-loop-less-2 Inv-loop μ-loop
 loop-less-2 c = omega arith
@@ -80,10 +86,10 @@ loop-again-2 c =
     let s = b .before .before .before .before .before in
     let at = read (c .before) in
     let upto = before-upto (b .grant-at .result) (s .args .a) (grantsOf (s .args .table .now)) (middle (v .low) (v .high)) (omega arith) in
-    (v .inv .0, upto, omega arith)
+    (omega arith, omega arith, upto, v .inv .3)
 
 returns : tie.Need-returns Inv-loop μ-loop
-returns c = let v = c .before .loop in omega arith
+returns c = let v = c .before .loop in λ p. omega (arith, v .inv .3 p)
 
 pub grants-before-spec : {M : Type 1} → statement M
 grants-before-spec =
