@@ -31,7 +31,7 @@ module _ (fs : List Flow) (ok : Accepted fs) (tab : List Grant) where
   -- ---- what passes obeys
 
   -- a flow's grants in a table that passes
-  reads-round : Reads fs tab → (f : Flow) → Mem f fs → (t : ℕ) × (t < f .interval) × Round 0 (cycle fs) (to (f .number) tab) f t
+  pub reads-round : Reads fs tab → (f : Flow) → Mem f fs → (t : ℕ) × (t < f .interval) × Round 0 (cycle fs) (to (f .number) tab) f t
   unfolding last grantsOf
   reads-round r f m =
       let gs = to (f .number) tab in
