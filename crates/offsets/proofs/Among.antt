@@ -13,20 +13,13 @@ use Rattle.logic.proofs.Progressions.{progression}
 use Rattle.flows.specs.declared.flow.Flow.{Flow}
 use Rattle.tables.specs.declared.packed.Grant.{Grant}
 use Rattle.law.specs.Check.{nominal, to}
+use Rattle.law.proofs.FlowGrants.{to-own, to-other}
 use Rattle.offsets.specs.Offsets.{grantsFrom, insert, joined, others}
 use Rattle.offsets.proofs.Joining.{all-joined, from-after}
 
 -- ---- one grant more at the front
 
 module _ (x : ℕ) (g : Grant) (gs : List Grant) where
-  to-own : g .flow ≡ x → to x (g ∷ gs) ≡ g ∷ to x gs
-  unfolding to
-  to-own e = rw (eq-eqb (g .flow) x e, to)
-
-  to-other : (g .flow ≡ x → ⊥) → to x (g ∷ gs) ≡ to x gs
-  unfolding to
-  to-other e = rw (ne-eqb (g .flow) x e, to)
-
   others-own : g .flow ≡ x → others x (g ∷ gs) ≡ others x gs
   unfolding others
   others-own e = rw (eq-eqb (g .flow) x e, others)

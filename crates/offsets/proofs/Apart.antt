@@ -33,11 +33,6 @@ insert-chain fs n a b (g ∷ gs) s c h i p =
     (c .0, insert-chain fs n (g .start + slots fs g) b gs (s .1) (c .1) (⊎-elim (λ q. absurd (omega arith)) (λ q. q) (p .0)) i (p .1)))
     (λ l. rw (le-ltb (g .start) (n .start) l) (h, (⊎-elim (λ q. q) (λ q. absurd (omega (arith, s .0))) (p .0), c .1)))
 
--- the same grants for flows that give each as many slots
-pub chain-same : (fs hs : List Flow) (a b : ℕ) (gs : List Grant) → All (λ g. slots hs g ≡ slots fs g) gs → Chain fs a b gs → Chain hs a b gs
-chain-same fs hs a b [] s c = c
-chain-same fs hs a b (g ∷ gs) s c = (c .0, rw (s .0) (chain-same fs hs (g .start + slots fs g) b gs (s .1) (c .1)))
-
 -- every grant of a chain starts where it begins or later
 chain-from : (fs : List Flow) (a b : ℕ) (gs : List Grant) → Chain fs a b gs → (g : Grant) → Mem g gs → a ≤ g .start
 chain-from fs a b [] c g m = absurd (List·Memᴰ·not-nil m)

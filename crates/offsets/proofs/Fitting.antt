@@ -10,33 +10,30 @@ use lib.ListN.{length}
 use borrow.Author.Tests.{leb-true, le-leb}
 use Rattle.logic.specs.Lists.{All, every}
 use Rattle.logic.proofs.Tests.{by-test, and-both, both-and}
-use Rattle.logic.proofs.Members.{all-mem, mem-all, all-imp, all-both, all-each, every-all}
-use Rattle.logic.proofs.Appends.{all-append}
+use Rattle.logic.proofs.Members.{all-mem, mem-all, all-imp, all-both, all-each, every-all, all-every}
+use Rattle.logic.proofs.Appends.{all-append, mem-behind}
 use Rattle.logic.proofs.Progressions.{progression}
 use Rattle.flows.specs.declared.flow.Flow.{Flow}
 use Rattle.flows.proofs.Flows.{Keeps}
-use Rattle.lists.specs.Facts.{occupies, cycle, frame, grantsOf}
+use Rattle.lists.specs.Facts.{occupies, cycle, frame, grantsOf, grants}
 use Rattle.lists.specs.Accepted.{Accepted}
-use Rattle.lists.proofs.Cycle.{kept, occupies-pos, divides-cycle}
+use Rattle.lists.proofs.Cycle.{kept, occupies-pos, divides-cycle, cycle-fits, granted}
+use Rattle.lists.proofs.OneMore.{cycle-same, grants-more, last-new}
 use Rattle.tables.specs.declared.packed.Grant.{Grant}
+use Rattle.tables.proofs.Meaning.{Fits, Holds}
 use Rattle.law.specs.Check.{known, look, slots, nominal, to}
 use Rattle.law.specs.Law.{Obeys, Law, Rising, Inside}
 use Rattle.law.proofs.Listed.{known-mem, mem-known, look-mem, slots-pos}
+use Rattle.law.proofs.OneMore.{look-more}
 use Rattle.law.proofs.FlowGrants.{to-all}
-use Rattle.law.proofs.Chains.{Chain, inside-chain, chain-inside, chain-rising, chain-once}
+use Rattle.law.proofs.Chains.{Chain, chain-same, inside-chain, chain-inside, chain-rising, chain-once}
 use Rattle.law.proofs.Rounds.{Round, round-obeys}
 use Rattle.law.proofs.Reading.{Reads}
 use Rattle.law.proofs.CheckIsLaw.{reads-round}
 use Rattle.offsets.specs.Offsets.{grantsFrom, newGrants, apart, free, fits, joined, others}
-use Rattle.offsets.proofs.OneMore.{mem-last, cycle-same, last-new, look-more}
-use Rattle.offsets.proofs.Joining.{all-joined, from-after, length-from}
+use Rattle.offsets.proofs.Joining.{all-joined, length-joined, from-after, from-before, length-from}
 use Rattle.offsets.proofs.Among.{others-each, from-own, joined-others, joined-other, joined-own, from-times, times-from}
-use Rattle.offsets.proofs.Apart.{Apart, Cleared, insert-chain, chain-same, chain-cleared}
-
-all-every {ℓ} : {A : Type ℓ} (ok : A → Bool) (xs : List A) → All (λ x. ok x ≡ true) xs → every ok xs ≡ true
-unfolding every
-all-every ok [] a = refl
-all-every ok (x ∷ xs) a = both-and (ok x) (every ok xs) (a .0) (all-every ok xs (a .1))
+use Rattle.offsets.proofs.Apart.{Apart, Cleared, insert-chain, chain-cleared}
 
 -- an accepted list, the last of whose flows is new to the table
 module _ (fs : List Flow) (f : Flow) (ok : Accepted (fs ++ (f ∷ []))) (low : frame fs ≤ f .interval) (high : f .interval ≤ cycle fs)
@@ -45,7 +42,7 @@ module _ (fs : List Flow) (f : Flow) (ok : Accepted (fs ++ (f ∷ []))) (low : f
   all = fs ++ (f ∷ [])
 
   rule : Keeps f
-  rule = kept all ok f (mem-last fs f)
+  rule = kept all ok f (mem-behind fs f [])
 
   -- no old grant is the new flow's
   strangers : All (λ g. g .flow ≡ f .number → ⊥) gs
@@ -68,6 +65,36 @@ module _ (fs : List Flow) (f : Flow) (ok : Accepted (fs ++ (f ∷ []))) (low : f
   unfolding newGrants
   new-grants o = joined-own f o (grantsOf (cycle fs) f) gs strangers
 
+  -- the new flow's grants fill the cycle
+  fills : grantsOf (cycle fs) f * f .interval ≡ cycle fs
+  unfolding grantsOf
+  fills = rw (cycle-same fs f low high) at (divides-cycle all ok f (mem-behind fs f []))
+
+  -- a packed table can hold the old grants and the new flow's
+  pub new-holds : length gs ≡ grants fs → Holds (cycle fs) (frame fs) gs → (o : ℕ) → o < f .interval → Holds (cycle fs) (frame fs) (joined (newGrants (cycle fs) f o) gs)
+  unfolding newGrants
+  new-holds many h o early =
+      let n = grantsOf (cycle fs) f in
+      let ns = grantsFrom f o n in
+      let length : length (joined ns gs) ≡ length gs + n = length-joined ns gs ∙ rw (length-from f o n) in
+      record {
+        filled = omega (arith, length, h .filled);
+        few = omega (arith, length, many, grants-more fs f low high, ok .grants-le);
+        fits =
+            all-joined Fits ns gs
+            (all-both (λ g. (g .flow ≡ f .number) × (g .late ≡ 0)) (λ g. g .start + f .interval ≤ o + n * f .interval) Fits ns
+            (λ g a b.
+            record {
+              flow-lt = omega (arith, a .0, rule .number-le);
+              start-lt = omega (arith, b, fills, cycle-fits all ok, cycle-same fs f low high);
+              late-lt = omega (arith, a .1);
+            })
+            (from-own f o n) (from-before f o n))
+            (h .fits);
+        cycle-lt = h .cycle-lt;
+        frame-lt = h .frame-lt;
+      }
+
   -- ---- slots
 
   old-slots : All (λ g. slots all g ≡ slots fs g) gs
@@ -77,7 +104,7 @@ module _ (fs : List Flow) (f : Flow) (ok : Accepted (fs ++ (f ∷ []))) (low : f
 
   new-slots : (n : Grant) → n .flow ≡ f .number → slots all n ≡ occupies f
   unfolding slots
-  new-slots n e = ap (λ (x : ℕ). occupies (look all x)) e ∙ ap occupies (look-mem all (ok .distinct) f (mem-last fs f))
+  new-slots n e = ap (λ (x : ℕ). occupies (look all x)) e ∙ ap occupies (look-mem all (ok .distinct) f (mem-behind fs f []))
 
   apart-is : (n g : Grant) → slots all n ≡ occupies f → slots all g ≡ slots fs g → (apart fs f n g ≡ true) ↔ Apart all n g
   unfolding apart
@@ -114,7 +141,7 @@ module _ (fs : List Flow) (f : Flow) (ok : Accepted (fs ++ (f ∷ []))) (low : f
   listed : (x n : ℕ) → All (λ g. known all (g .flow) ≡ true) (joined (grantsFrom f x n) gs)
   listed x n =
       all-joined (λ g. known all (g .flow) ≡ true) (grantsFrom f x n) gs
-      (all-imp (λ g. (g .flow ≡ f .number) × (g .late ≡ 0)) (λ g. known all (g .flow) ≡ true) (grantsFrom f x n) (λ g a. ap (known all) (a .0) ∙ mem-known all f (mem-last fs f)) (from-own f x n))
+      (all-imp (λ g. (g .flow ≡ f .number) × (g .late ≡ 0)) (λ g. known all (g .flow) ≡ true) (grantsFrom f x n) (λ g a. ap (known all) (a .0) ∙ mem-known all f (mem-behind fs f [])) (from-own f x n))
       (all-imp (λ g. known fs (g .flow) ≡ true) (λ g. known all (g .flow) ≡ true) gs (λ g k. look-more fs f (g .flow) k .0) (reads .listed))
 
   -- and takes a slot
@@ -135,26 +162,14 @@ module _ (fs : List Flow) (f : Flow) (ok : Accepted (fs ++ (f ∷ []))) (low : f
       (all-imp (λ m. x + f .interval ≤ m .start) (Apart all g) ns (λ m q. inl (omega (arith, new-slots g refl, rule .fitting))) (from-after f (x + f .interval) n))
       (i .0))
 
-  -- the new flow has as many grants as fill the cycle
-  fills : grantsOf (cycle fs) f * f .interval ≡ cycle fs
-  unfolding grantsOf
-  fills = rw (cycle-same fs f low high) at (divides-cycle all ok f (mem-last fs f))
-
-  pub granted : 0 < grantsOf (cycle fs) f
-  granted = go (grantsOf (cycle fs) f) fills
-    where
-      go : (n : ℕ) → n * f .interval ≡ cycle fs → 0 < n
-      go zero e = absurd (omega (arith, rule .timed, high))
-      go (suc n) e = omega arith
-
-  -- its round, for the offset o
+  -- the new flow's round, for the offset o
   new-round : (o : ℕ) → Round 0 (cycle fs) (newGrants (cycle fs) f o) f o
-  unfolding newGrants
+  unfolding newGrants grantsOf
   new-round o =
       let n = grantsOf (cycle fs) f in
       let ns = grantsFrom f o n in
       record {
-        granted = rw (length-from f o n) granted;
+        granted = rw (length-from f o n) (rw (cycle-same fs f low high) at (granted all ok f (mem-behind fs f [])));
         fills = rw (length-from f o n) fills;
         punctual =
             all-imp (λ g. (g .flow ≡ f .number) × (g .late ≡ 0)) (λ g. (g .late ≤ f .jitter) × (g .late ≤ 0 + g .start)) ns (λ g a. (omega arith, omega arith)) (from-own f o n);
@@ -232,10 +247,10 @@ module _ (fs : List Flow) (f : Flow) (ok : Accepted (fs ++ (f ∷ []))) (low : f
       → (o : ℕ) × (o < f .interval) × (fits fs gs f o ≡ true)
   unfolding newGrants
   standing tab r old prompt =
-      let y = reads-round all ok tab r f (mem-last fs f) in
+      let y = reads-round all ok tab r f (mem-behind fs f []) in
       let own = to (f .number) tab in
       let count : length own ≡ grantsOf (cycle fs) f =
-      rw (cycle-same fs f low high) at (all-mem (λ g. length (to (g .number) tab) ≡ grantsOf (cycle all) g) all (r .counted) f (mem-last fs f)) in
+      rw (cycle-same fs f low high) at (all-mem (λ g. length (to (g .number) tab) ≡ grantsOf (cycle all) g) all (r .counted) f (mem-behind fs f [])) in
       let whose =
       all-both (λ g. Unit × (g .flow ≡ f .number)) (λ g. g .late ≡ 0) (λ g. (g .flow ≡ f .number) × (g .late ≡ 0)) own (λ g a b. (a .1, b))
       (to-all (λ g. Unit) (f .number) tab (all-each (λ g. Unit) tab (λ g. tt))) prompt in (

@@ -1,7 +1,7 @@
 pub mod Joining
 pub mod Smallest
-pub mod OneMore
 pub mod Among
 pub mod Apart
 pub mod Fitting
+pub mod Standing
 pub mod Cases
