@@ -28,6 +28,11 @@ pub chain-earlier : (fs : List Flow) (a c b : ℕ) (rs : List Grant) → a ≤ c
 chain-earlier fs a c b [] l h = omega arith
 chain-earlier fs a c b (r ∷ rs) l h = (omega arith, h .1)
 
+-- for flows that give each grant as many slots
+pub chain-same : (fs hs : List Flow) (a b : ℕ) (rs : List Grant) → All (λ r. slots hs r ≡ slots fs r) rs → Chain fs a b rs → Chain hs a b rs
+chain-same fs hs a b [] s c = c
+chain-same fs hs a b (r ∷ rs) s c = (c .0, rw (s .0) (chain-same fs hs (r .start + slots fs r) b rs (s .1) (c .1)))
+
 -- all that is granted fits between the ends
 pub chain-sum : (fs : List Flow) (a b : ℕ) (rs : List Grant) → Chain fs a b rs → a + sum (slots fs) rs ≤ b
 unfolding sum

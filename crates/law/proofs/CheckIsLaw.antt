@@ -15,7 +15,7 @@ use Rattle.flows.specs.declared.flow.Flow.{Flow}
 use Rattle.refusals.specs.declared.Checked.the-variants.{Passed}
 use Rattle.lists.specs.Facts.{occupies, cycle, grantsOf}
 use Rattle.lists.specs.Accepted.{Accepted}
-use Rattle.lists.proofs.Cycle.{cycle-le, occupies-pos, interval-pos, divides-cycle}
+use Rattle.lists.proofs.Cycle.{cycle-le, occupies-pos, interval-pos, divides-cycle, granted}
 use Rattle.tables.specs.declared.packed.Grant.{Grant}
 use Rattle.tables.specs.Form.{test12}
 use Rattle.law.specs.Check.{known, look, slots, nominal, to, last, tests14to18}
@@ -31,13 +31,12 @@ module _ (fs : List Flow) (ok : Accepted fs) (tab : List Grant) where
   -- ---- what passes obeys
 
   -- a flow's grants in a table that passes
-  reads-round : Reads fs tab → (f : Flow) → Mem f fs → (t : ℕ) × (t < f .interval) × Round 0 (cycle fs) (to (f .number) tab) f t
+  pub reads-round : Reads fs tab → (f : Flow) → Mem f fs → (t : ℕ) × (t < f .interval) × Round 0 (cycle fs) (to (f .number) tab) f t
   unfolding last grantsOf
   reads-round r f m =
       let gs = to (f .number) tab in
-      let fills : length gs * f .interval ≡ cycle fs =
-      ap (λ (n : ℕ). n * f .interval) (all-mem (λ f. length (to (f .number) tab) ≡ grantsOf (cycle fs) f) fs (r .counted) f m) ∙ divides-cycle fs ok f m in
-      let some : 0 < length gs = granted (length gs) fills in
+      let count = all-mem (λ f. length (to (f .number) tab) ≡ grantsOf (cycle fs) f) fs (r .counted) f m in
+      let some : 0 < length gs = rw count (granted fs ok f m) in
       let t = pass-times 0 fs (ok .distinct) [] tab (r .listed) (r .timely) in
       let l : length (times 0 (f .number) tab) ≡ length gs = length-map gs (nominal 0) in
       let p = first-progression (f .interval) (times 0 (f .number) tab) (t .follows f m) (rw l some) in (
@@ -45,7 +44,7 @@ module _ (fs : List Flow) (ok : Accepted fs) (tab : List Grant) where
         p .1,
         record {
           granted = some;
-          fills = fills;
+          fills = rw count (divides-cycle fs ok f m);
           punctual =
               all-imp (λ g. Punctual 0 fs g × (g .flow ≡ f .number)) (λ g. (g .late ≤ f .jitter) × (g .late ≤ 0 + g .start)) gs
               (λ g a. let e : look fs (g .flow) ≡ f = ap (look fs) (a .1) ∙ look-mem fs (ok .distinct) f m in rw e at (a .0))
@@ -53,10 +52,6 @@ module _ (fs : List Flow) (ok : Accepted fs) (tab : List Grant) where
           times = p .2 ∙ ap (progression (p .0) (f .interval)) l;
         },
       )
-    where
-      granted : (n : ℕ) → n * f .interval ≡ cycle fs → 0 < n
-      granted zero e = absurd (omega (arith, interval-pos fs ok f m, cycle-le fs f m))
-      granted (suc n) e = omega arith
 
   reads-law : Reads fs tab → Law 0 fs tab
   reads-law r =

@@ -1,4 +1,5 @@
 pub mod Listed
+pub mod OneMore
 pub mod FlowGrants
 pub mod Chains
 pub mod Times
@@ -8,4 +9,5 @@ pub mod Reading
 pub mod CheckIsLaw
 pub mod Demand
 pub mod Oversold
+pub mod Packed
 pub mod Cases

@@ -3,17 +3,18 @@ use mathlib.Core.Path.{_≡_, refl, sym, ap, _∙_}
 use mathlib.Core.Bool.{true}
 use mathlib.Core.Logic.{_⊎_, inl, inr, ⊎-elim}
 use mathlib.Core.List.{List, [], _∷_, List·Memᴰ·head, List·Memᴰ·tail, List·Memᴰ·not-nil}
-use Prim.Native.Nat.{ℕ, _*_, _/_, _%_, _≤_, _<_, max, min}
+use Prim.Native.Nat.{ℕ, zero, suc, _*_, _/_, _%_, _≤_, _<_, max, min}
 use native.Mathlib.Omega.{arith}
 use native.Mathlib.Nat.{div-self, div-add-mod'}
 use lib.ListN.{length}
 use borrow.Author.Tests.{eqb-true}
+use Rattle.logic.specs.Lists.{sum}
 use Rattle.logic.proofs.Tests.{by-lt}
 use Rattle.logic.proofs.Members.{Mem, by-mem, all-mem}
 use Rattle.flows.specs.declared.flow.Flow.{Flow}
 use Rattle.flows.specs.Flows.{keeps}
 use Rattle.flows.proofs.Flows.{Keeps, keeps-is}
-use Rattle.lists.specs.Facts.{occupies, related, cycle, least, frame}
+use Rattle.lists.specs.Facts.{occupies, related, cycle, least, frame, grantsOf, grants}
 use Rattle.lists.specs.Accepted.{Related, Accepted}
 
 -- ---- related intervals
@@ -130,3 +131,21 @@ module _ (fs : List Flow) (ok : Accepted fs) where
   frame-divides f m =
       let y = frame-in in
       rw (← y .2) (interval-divides (y .0) f (y .1) m (rw (y .2) (least-le (cycle fs) fs f m)))
+
+  -- the cycle has its place in a table's head
+  pub cycle-fits : cycle fs ≤ 4096
+  cycle-fits = let y = cycle-in in omega (arith, y .2, kept (y .0) (y .1) .interval-le)
+
+  -- every flow has a grant in a cycle
+  pub granted : (f : Flow) → Mem f fs → 0 < cycle fs / f .interval
+  granted f m = go (cycle fs / f .interval) (divides-cycle f m)
+    where
+      go : (n : ℕ) → n * f .interval ≡ cycle fs → 0 < n
+      go zero e = absurd (omega (arith, interval-pos f m, cycle-le fs f m))
+      go (suc n) e = omega arith
+
+-- so an accepted list has grants
+pub grants-pos : (fs : List Flow) → Accepted fs → 1 ≤ grants fs
+unfolding grants grantsOf sum
+grants-pos [] ok = absurd (omega (arith, ok .filled))
+grants-pos (f ∷ fs) ok = omega (arith, granted (f ∷ fs) ok f (List·Memᴰ·head refl))

@@ -7,7 +7,7 @@ use Prim.Native.Nat.{ℕ, zero, suc, _<_}
 use native.Mathlib.Omega.{arith}
 use lib.ListN.{length, getD}
 use Rattle.logic.specs.Lists.{All, every}
-use Rattle.logic.proofs.Tests.{and-both}
+use Rattle.logic.proofs.Tests.{and-both, both-and}
 
 -- x stands in the list
 abbrev pub Mem {ℓ} : {A : Type ℓ} → A → List A → Type ℓ
@@ -49,8 +49,13 @@ pub all-each {ℓ} : {A : Type ℓ} (P : A → Type 0) (xs : List A) → ((x : A
 all-each P [] h = tt
 all-each P (x ∷ xs) h = (h x, all-each P xs h)
 
--- a test that every entry passes
+-- a test that every entry passes, both ways
 pub every-all {ℓ} : {A : Type ℓ} (ok : A → Bool) (xs : List A) → every ok xs ≡ true → All (λ x. ok x ≡ true) xs
 unfolding every
 every-all ok [] e = tt
 every-all ok (x ∷ xs) e = let both = and-both (ok x) (every ok xs) e in (both .0, every-all ok xs (both .1))
+
+pub all-every {ℓ} : {A : Type ℓ} (ok : A → Bool) (xs : List A) → All (λ x. ok x ≡ true) xs → every ok xs ≡ true
+unfolding every
+all-every ok [] a = refl
+all-every ok (x ∷ xs) a = both-and (ok x) (every ok xs) (a .0) (all-every ok xs (a .1))

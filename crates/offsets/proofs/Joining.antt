@@ -1,7 +1,7 @@
 -- The new flow's grants put among the old ones. Assumes nothing.
 use mathlib.Core.Path.{_≡_, refl, ap, _∙_}
 use mathlib.Core.List.{List, [], _∷_}
-use Prim.Native.Nat.{ℕ, zero, suc, _+_, _≤_, _<_}
+use Prim.Native.Nat.{ℕ, zero, suc, _+_, _*_, _≤_, _<_}
 use native.Mathlib.Omega.{arith}
 use lib.ListN.{length}
 use borrow.Author.Tests.{lt-ltb, le-ltb}
@@ -72,6 +72,16 @@ from-after f x zero = tt
 from-after f x (suc n) = (
   omega arith,
   all-imp (λ g. x + f .interval ≤ g .start) (λ g. x ≤ g .start) (grantsFrom f (x + f .interval) n) (λ g h. omega arith) (from-after f (x + f .interval) n),
+)
+
+-- and an interval or more before the end of n intervals
+pub from-before : (f : Flow) (x n : ℕ) → All (λ g. g .start + f .interval ≤ x + n * f .interval) (grantsFrom f x n)
+unfolding grantsFrom
+from-before f x zero = tt
+from-before f x (suc n) = (
+  omega arith,
+  all-imp (λ g. g .start + f .interval ≤ x + f .interval + n * f .interval) (λ g. g .start + f .interval ≤ x + suc n * f .interval)
+      (grantsFrom f (x + f .interval) n) (λ g h. omega arith) (from-before f (x + f .interval) n),
 )
 
 -- the first of n + 1 new grants comes first where no old one starts before it

@@ -1,6 +1,6 @@
 -- What the quick ways of tests 5 and 6 note of the records before tells of them. Assumes nothing.
 use mathlib.Core.Path.{_≡_, refl, sym, subst, _∙_}
-use mathlib.Core.Bool.{Bool, true, not}
+use mathlib.Core.Bool.{true, not}
 use mathlib.Core.List.{List, [], _∷_}
 use Prim.Native.Nat.{ℕ, _+_, _/_, _%_, _^_, _≤_, _<_, max, min}
 use native.Mathlib.Omega.{arith}
@@ -10,9 +10,9 @@ use lib.Dec.{eqb}
 use lib.ListN.{length, getD, set, length-set}
 use lib.Seq.{getD-set-same, getD-set-other}
 use borrow.Author.Tests.{eq-eqb, ne-eqb}
-use Rattle.logic.specs.Lists.{All, every}
-use Rattle.logic.proofs.Tests.{by-eq, both-and}
-use Rattle.logic.proofs.Members.{all-imp}
+use Rattle.logic.specs.Lists.{All}
+use Rattle.logic.proofs.Tests.{by-eq}
+use Rattle.logic.proofs.Members.{all-imp, all-every}
 use Rattle.flows.specs.declared.flow.Flow.{Flow}
 use Rattle.flows.specs.Flows.{noFlow}
 use Rattle.refusals.proofs.Walks.{before}
@@ -22,12 +22,6 @@ use Rattle.lists.proofs.Records.{flow-is}
 use Rattle.pairing.specs.declared.pairs.Pair.the-variants.{Number, Interval}
 use Rattle.pairing.specs.Parts.{agreesWith, OneOf, Chain, Kept, bit, Noted}
 use Rattle.pairing.proofs.Bits.{bit-set, bit-other}
-
--- what holds of each entry passes the test
-pub all-every : (ok : Flow → Bool) (fs : List Flow) → All (λ f. ok f ≡ true) fs → every ok fs ≡ true
-unfolding every
-all-every ok [] a = refl
-all-every ok (f ∷ fs) a = both-and (ok f) (every ok fs) (a .0) (all-every ok fs (a .1))
 
 -- what is noted of the records before record i and of it is noted of those before the next
 pub noted-next : (P : Flow → Type 0) (l : List ℕ) (i : ℕ) (f : Flow) → i < count l → f ≡ flowAt l i → All P (before (flowsOf l) noFlow i) → P f → All P (before (flowsOf l) noFlow (i + 1))

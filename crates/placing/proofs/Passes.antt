@@ -131,7 +131,3 @@ module _ (fs : List Flow) (ok : Accepted fs) (gs : List Grant) (plan : planned f
       let k = kept fs ok (look fs (r .flow)) (m .0) in
       (p .0, omega (arith, m .1, k .number-le), q, omega (arith, k .tolerable, k .interval-le)))
       timed (chain-before fs 0 (cycle fs) gs slotted chain)
-
--- the cycle has its place in a table's head
-pub cycle-fits : (fs : List Flow) → Accepted fs → cycle fs ≤ 4096
-cycle-fits fs ok = let c = cycle-in fs ok in omega (arith, c .2, kept fs ok (c .0) (c .1) .interval-le)

@@ -23,7 +23,7 @@ use Rattle.lists.proofs.Cycle.{frame-pos}
 use Rattle.tables.specs.declared.packed.Grant.{Grant}
 use Rattle.tables.specs.Tables.{headFields, place, tableOf}
 use Rattle.placing.specs.Rule.{Outcome, done, refused, Settled, layout, rows, planned}
-use Rattle.placing.proofs.Passes.{planned-done, planned-length, planned-fits, cycle-fits}
+use Rattle.placing.proofs.Passes.{planned-done, planned-length, planned-fits}
 use Rattle.planner.specs.declared.placed.Placed.{Placed}
 use Rattle.planner.specs.declared.placed.Placed.the-variants.{Lawful, NoFrame}
 use Rattle.planner.specs.Finished.{Finished}

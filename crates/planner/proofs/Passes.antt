@@ -27,9 +27,9 @@ use Rattle.tables.specs.Tables.{place, grantsOf, tableOf}
 use Rattle.tables.specs.Form.{test11, formTests}
 use Rattle.tables.proofs.Meaning.{Fits, Holds, length-table, cycle-table, frame-table, grants-table, formed-table}
 use Rattle.law.specs.Check.{known, test13, check}
-use Rattle.law.proofs.Demand.{check-parts}
+use Rattle.law.proofs.Packed.{packed-passes}
 use Rattle.placing.specs.Rule.{Outcome, done, refused, planned}
-use Rattle.placing.proofs.Passes.{planned-passes, planned-length, planned-fits, cycle-fits}
+use Rattle.placing.proofs.Passes.{planned-passes, planned-length}
 use Rattle.planner.specs.Plan.{test8, test9, test10, planTests, grantsPlanned, planTable, planAnswer}
 
 -- where test 10 passes the list is planned
@@ -41,59 +41,16 @@ placed fs e = go (planned fs) e
     go (done gs) q = refl
     go (refused p) q = refused-not (NoFrame p) q
 
--- an accepted list has grants
-grants-pos : (fs : List Flow) → Accepted fs → 1 ≤ grants fs
-unfolding grants grantsEach sum
-grants-pos [] ok = absurd (omega (arith, ok .filled))
-grants-pos (f ∷ fs) ok =
-    let m = List·Memᴰ·head refl in
-    let c = cycle (f ∷ fs) in
-    by-lt 0 (c / f .interval) (λ h. omega arith)
-    (λ h.
-    let z : c / f .interval ≡ 0 = omega arith in
-    let e : 0 * f .interval ≡ c = rw z at (divides-cycle (f ∷ fs) ok f m) in
-    absurd (omega (arith, interval-pos (f ∷ fs) ok f m, cycle-le (f ∷ fs) f m)))
-
-module _ (fs : List Flow) (ok : Accepted fs) (gs : List Grant) (e : planned fs ≡ done gs) where
-  -- a packed table can hold what is planned
-  pub held : Holds (cycle fs) (frame fs) gs
-  unfolding frame
-  held =
-      let n = planned-length fs ok gs e in
-      record {
-        filled = omega (arith, n, grants-pos fs ok);
-        few = omega (arith, n, ok .grants-le);
-        fits =
-            all-imp (λ g. (known fs (g .flow) ≡ true) × (g .flow < 1024) × (g .start < cycle fs) × (g .late < 4096)) Fits gs
-            (λ g h. record { flow-lt = h .1; start-lt = omega (arith, cycle-fits fs ok); late-lt = h .3 }) (planned-fits fs ok gs e);
-        cycle-lt = omega (arith, cycle-fits fs ok);
-        frame-lt = omega (arith, cycle-fits fs ok, least-upto (cycle fs) fs);
-      }
-
 -- DEMAND 2, of the planner: the table of every accepted plan passes the check
 pub plan-passes : (l : List ℕ) (n : ℕ) → planTests l n ≡ Passed → check l (planTable l) ≡ Passed
-unfolding planTests planTable formTests test11 test13
+unfolding planTests planTable
 plan-passes l n e =
     let fs = flowsOf l in
-    let gs = grantsPlanned fs in
     let a = both-passed (tests1to7 l) _ e in
     let b = both-passed (test8 fs) _ (a .1) in
     let c = both-passed (test9 fs n) _ (b .1) in
-    let ok = accepted l (a .0) in
-    let is = placed fs (c .1) in
-    let h = held fs ok gs is in
-    let pass = planned-passes fs ok gs is in
-    let back : grantsOf (tableOf (cycle fs) (frame fs) gs) ≡ gs = grants-table (cycle fs) (frame fs) gs h in
-    check-parts l (planTable l) .1
-    (record {
-      list = a .0;
-      form =
-          passed-both (test11 (tableOf (cycle fs) (frame fs) gs)) _ (unless-yes _ TableForm (formed-table (cycle fs) (frame fs) gs h)) (rw back (pass .0));
-      belongs =
-          unless-yes _ OtherCycle
-          (both-and _ _ (eq-eqb _ (cycle fs) (cycle-table (cycle fs) (frame fs) gs h)) (eq-eqb _ (frame fs) (frame-table (cycle fs) (frame fs) gs h)));
-      rules = rw back (pass .1);
-    })
+    let pass = planned-passes fs (accepted l (a .0)) (grantsPlanned fs) (placed fs (c .1)) in
+    packed-passes l (grantsPlanned fs) (a .0) (pass .0) (pass .1)
 
 -- a plan's answer is the length of its table
 pub plan-answers : (l : List ℕ) (n : ℕ) → planTests l n ≡ Passed → planAnswer l n ≡ Bytes (place (grants (flowsOf l)))
