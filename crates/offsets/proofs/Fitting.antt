@@ -35,14 +35,23 @@ use Rattle.offsets.proofs.Joining.{all-joined, length-joined, from-afte
 use Rattle.offsets.proofs.Among.{others-each, from-own, joined-others, joined-other, joined-own, from-times, times-from}
 use Rattle.offsets.proofs.Apart.{Apart, Cleared, insert-chain, chain-cleared}
 
--- an accepted list, the last of whose flows is new to the table
-module _ (fs : List Flow) (f : Flow) (ok : Accepted (fs ++ (f ∷ []))) (low : frame fs ≤ f .interval) (high : f .interval ≤ cycle fs)
-    (gs : List Grant) (reads : Reads fs gs) (law : Law 0 fs gs) where
+-- a list whose last flow is new, with an interval from the frame to the cycle of the flows before it, and their passing grants
+pub record New (fs : List Flow) (f : Flow) (gs : List Grant) : Type 0 where
+  pub ok : Accepted (fs ++ (f ∷ []))
+  pub low : frame fs ≤ f .interval
+  pub high : f .interval ≤ cycle fs
+  pub reads : Reads fs gs
+  pub law : Law 0 fs gs
+
+module _ (fs : List Flow) (f : Flow) (gs : List Grant) (N : New fs f gs) where
   abbrev all : List Flow
   all = fs ++ (f ∷ [])
 
   rule : Keeps f
-  rule = kept all ok f (mem-behind fs f [])
+  rule = kept all (N .ok) f (mem-behind fs f [])
+
+  same : cycle all ≡ cycle fs
+  same = cycle-same fs f (N .low) (N .high)
 
   -- no old grant is the new flow's
   strangers : All (λ g. g .flow ≡ f .number → ⊥) gs
@@ -50,8 +59,8 @@ module _ (fs : List Flow) (f : Flow) (ok : Accepted (fs ++ (f ∷ []))) (low : f
       all-imp (λ g. known fs (g .flow) ≡ true) (λ g. g .flow ≡ f .number → ⊥) gs
       (λ g k e.
       let m = known-mem fs (g .flow) k in
-      all-mem (λ h. h .number ≡ f .number → ⊥) fs (last-new fs f (ok .distinct)) (look fs (g .flow)) (m .0) (m .1 ∙ e))
-      (reads .listed)
+      all-mem (λ h. h .number ≡ f .number → ⊥) fs (last-new fs f (N .ok .distinct)) (look fs (g .flow)) (m .0) (m .1 ∙ e))
+      (N .reads .listed)
 
   -- the old grants stand as they stood
   pub old-grants : (o : ℕ) → others (f .number) (joined (newGrants (cycle fs) f o) gs) ≡ gs
@@ -68,7 +77,7 @@ module _ (fs : List Flow) (f : Flow) (ok : Accepted (fs ++ (f ∷ []))) (low : f
   -- the new flow's grants fill the cycle
   fills : grantsOf (cycle fs) f * f .interval ≡ cycle fs
   unfolding grantsOf
-  fills = rw (cycle-same fs f low high) at (divides-cycle all ok f (mem-behind fs f []))
+  fills = rw same at (divides-cycle all (N .ok) f (mem-behind fs f []))
 
   -- a packed table can hold the old grants and the new flow's
   pub new-holds : length gs ≡ grants fs → Holds (cycle fs) (frame fs) gs → (o : ℕ) → o < f .interval → Holds (cycle fs) (frame fs) (joined (newGrants (cycle fs) f o) gs)
@@ -76,17 +85,17 @@ module _ (fs : List Flow) (f : Flow) (ok : Accepted (fs ++ (f ∷ []))) (low : f
   new-holds many h o early =
       let n = grantsOf (cycle fs) f in
       let ns = grantsFrom f o n in
-      let length : length (joined ns gs) ≡ length gs + n = length-joined ns gs ∙ rw (length-from f o n) in
+      let long : length (joined ns gs) ≡ length gs + n = length-joined ns gs ∙ rw (length-from f o n) in
       record {
-        filled = omega (arith, length, h .filled);
-        few = omega (arith, length, many, grants-more fs f low high, ok .grants-le);
+        filled = omega (arith, long, h .filled);
+        few = omega (arith, long, many, grants-more fs f (N .low) (N .high), N .ok .grants-le);
         fits =
             all-joined Fits ns gs
             (all-both (λ g. (g .flow ≡ f .number) × (g .late ≡ 0)) (λ g. g .start + f .interval ≤ o + n * f .interval) Fits ns
             (λ g a b.
             record {
               flow-lt = omega (arith, a .0, rule .number-le);
-              start-lt = omega (arith, b, fills, cycle-fits all ok, cycle-same fs f low high);
+              start-lt = omega (arith, b, fills, cycle-fits all (N .ok), same);
               late-lt = omega (arith, a .1);
             })
             (from-own f o n) (from-before f o n))
@@ -100,11 +109,11 @@ module _ (fs : List Flow) (f : Flow) (ok : Accepted (fs ++ (f ∷ []))) (low : f
   old-slots : All (λ g. slots all g ≡ slots fs g) gs
   unfolding slots
   old-slots =
-      all-imp (λ g. known fs (g .flow) ≡ true) (λ g. slots all g ≡ slots fs g) gs (λ g k. ap occupies (look-more fs f (g .flow) k .1)) (reads .listed)
+      all-imp (λ g. known fs (g .flow) ≡ true) (λ g. slots all g ≡ slots fs g) gs (λ g k. ap occupies (look-more fs f (g .flow) k .1)) (N .reads .listed)
 
   new-slots : (n : Grant) → n .flow ≡ f .number → slots all n ≡ occupies f
   unfolding slots
-  new-slots n e = ap (λ (x : ℕ). occupies (look all x)) e ∙ ap occupies (look-mem all (ok .distinct) f (mem-behind fs f []))
+  new-slots n e = ap (λ (x : ℕ). occupies (look all x)) e ∙ ap occupies (look-mem all (N .ok .distinct) f (mem-behind fs f []))
 
   apart-is : (n g : Grant) → slots all n ≡ occupies f → slots all g ≡ slots fs g → (apart fs f n g ≡ true) ↔ Apart all n g
   unfolding apart
@@ -142,16 +151,16 @@ module _ (fs : List Flow) (f : Flow) (ok : Accepted (fs ++ (f ∷ []))) (low : f
   listed x n =
       all-joined (λ g. known all (g .flow) ≡ true) (grantsFrom f x n) gs
       (all-imp (λ g. (g .flow ≡ f .number) × (g .late ≡ 0)) (λ g. known all (g .flow) ≡ true) (grantsFrom f x n) (λ g a. ap (known all) (a .0) ∙ mem-known all f (mem-behind fs f [])) (from-own f x n))
-      (all-imp (λ g. known fs (g .flow) ≡ true) (λ g. known all (g .flow) ≡ true) gs (λ g k. look-more fs f (g .flow) k .0) (reads .listed))
+      (all-imp (λ g. known fs (g .flow) ≡ true) (λ g. known all (g .flow) ≡ true) gs (λ g k. look-more fs f (g .flow) k .0) (N .reads .listed))
 
   -- and takes a slot
   sized : (x n : ℕ) → All (λ g. 0 < slots all g) (joined (grantsFrom f x n) gs)
-  sized x n = slots-pos all (joined (grantsFrom f x n) gs) (mem-all (λ f. 0 < occupies f) all (occupies-pos all ok)) (listed x n)
+  sized x n = slots-pos all (joined (grantsFrom f x n) gs) (mem-all (λ f. 0 < occupies f) all (occupies-pos all (N .ok))) (listed x n)
 
   -- one after another
   joined-chain : (x n : ℕ) → every (free fs gs f) (grantsFrom f x n) ≡ true → Chain all 0 (cycle fs) (joined (grantsFrom f x n) gs)
   unfolding grantsFrom joined every occupies
-  joined-chain x zero h = chain-same fs all 0 (cycle fs) gs old-slots (inside-chain fs gs (reads .clear) (reads .inside))
+  joined-chain x zero h = chain-same fs all 0 (cycle fs) gs old-slots (inside-chain fs gs (N .reads .clear) (N .reads .inside))
   joined-chain x (suc n) h =
       let g : Grant = record { flow = f .number; start = x; late = 0 } in
       let ns = grantsFrom f (x + f .interval) n in
@@ -169,7 +178,7 @@ module _ (fs : List Flow) (f : Flow) (ok : Accepted (fs ++ (f ∷ []))) (low : f
       let n = grantsOf (cycle fs) f in
       let ns = grantsFrom f o n in
       record {
-        granted = rw (length-from f o n) (rw (cycle-same fs f low high) at (granted all ok f (mem-behind fs f [])));
+        granted = rw (length-from f o n) (rw same at (granted all (N .ok) f (mem-behind fs f [])));
         fills = rw (length-from f o n) fills;
         punctual =
             all-imp (λ g. (g .flow ≡ f .number) × (g .late ≡ 0)) (λ g. (g .late ≤ f .jitter) × (g .late ≤ 0 + g .start)) ns (λ g a. (omega arith, omega arith)) (from-own f o n);
@@ -189,7 +198,7 @@ module _ (fs : List Flow) (f : Flow) (ok : Accepted (fs ++ (f ∷ []))) (low : f
     new-rising = chain-rising all 0 (cycle fs) table (sized o (grantsOf (cycle fs) f)) new-chain
 
     pub new-inside : Inside all table
-    new-inside = rw (cycle-same fs f low high) (chain-inside all 0 (cycle fs) table new-chain)
+    new-inside = rw same (chain-inside all 0 (cycle fs) table new-chain)
 
     -- each old flow's grants are what they were
     old-obeys : All (λ g. Obeys 0 (cycle all) (to (g .number) table) g) fs
@@ -198,19 +207,19 @@ module _ (fs : List Flow) (f : Flow) (ok : Accepted (fs ++ (f ∷ []))) (low : f
         let n = grantsOf (cycle fs) f in
         all-both (λ g. g .number ≡ f .number → ⊥) (λ g. Obeys 0 (cycle fs) (to (g .number) gs) g) (λ g. Obeys 0 (cycle all) (to (g .number) table) g) fs
         (λ g d r.
-        let same : to (g .number) table ≡ to (g .number) gs =
+        let own : to (g .number) table ≡ to (g .number) gs =
         joined-other (g .number) (grantsFrom f o n) gs
         (all-imp (λ n. (n .flow ≡ f .number) × (n .late ≡ 0)) (λ n. n .flow ≡ g .number → ⊥) (grantsFrom f o n) (λ n a e. d (sym e ∙ a .0)) (from-own f o n)) in
-        rw (cycle-same fs f low high, same) r)
-        (last-new fs f (ok .distinct)) (law .obeyed)
+        rw (same, own) r)
+        (last-new fs f (N .ok .distinct)) (N .law .obeyed)
 
     new-obeys : Obeys 0 (cycle all) (to (f .number) table) f
-    new-obeys = rw (cycle-same fs f low high, new-grants o) (round-obeys 0 (cycle fs) (newGrants (cycle fs) f o) f o (new-round o))
+    new-obeys = rw (same, new-grants o) (round-obeys 0 (cycle fs) (newGrants (cycle fs) f o) f o (new-round o))
 
     pub new-law : Law 0 all table
     unfolding newGrants
     new-law =
-        let c : 0 + cycle all ≡ cycle fs = omega (arith, cycle-same fs f low high) in
+        let c : 0 + cycle all ≡ cycle fs = omega (arith, same) in
         record {
           listed = listed o (grantsOf (cycle fs) f);
           obeyed = all-append (λ g. Obeys 0 (cycle all) (to (g .number) table) g) fs (f ∷ []) old-obeys (new-obeys, tt);
@@ -240,17 +249,17 @@ module _ (fs : List Flow) (f : Flow) (ok : Accepted (fs ++ (f ∷ []))) (low : f
 
   -- a passing table's grants stand one after another
   pub passing-chain : (tab : List Grant) → Reads all tab → Chain all 0 (cycle fs) tab
-  passing-chain tab r = rw (cycle-same fs f low high) at (inside-chain all tab (r .clear) (r .inside))
+  passing-chain tab r = rw same at (inside-chain all tab (r .clear) (r .inside))
 
   -- any passing table in which the old grants stand as they stood, with the new flow's not late
   pub standing : (tab : List Grant) → Reads all tab → others (f .number) tab ≡ gs → All (λ g. g .late ≡ 0) (to (f .number) tab)
       → (o : ℕ) × (o < f .interval) × (fits fs gs f o ≡ true)
   unfolding newGrants
   standing tab r old prompt =
-      let y = reads-round all ok tab r f (mem-behind fs f []) in
+      let y = reads-round all (N .ok) tab r f (mem-behind fs f []) in
       let own = to (f .number) tab in
       let count : length own ≡ grantsOf (cycle fs) f =
-      rw (cycle-same fs f low high) at (all-mem (λ g. length (to (g .number) tab) ≡ grantsOf (cycle all) g) all (r .counted) f (mem-behind fs f [])) in
+      rw same at (all-mem (λ g. length (to (g .number) tab) ≡ grantsOf (cycle all) g) all (r .counted) f (mem-behind fs f [])) in
       let whose =
       all-both (λ g. Unit × (g .flow ≡ f .number)) (λ g. g .late ≡ 0) (λ g. (g .flow ≡ f .number) × (g .late ≡ 0)) own (λ g a b. (a .1, b))
       (to-all (λ g. Unit) (f .number) tab (all-each (λ g. Unit) tab (λ g. tt))) prompt in (

@@ -4,4 +4,6 @@ pub mod Among
 pub mod Apart
 pub mod Fitting
 pub mod Standing
+pub mod Numbers
+pub mod Adding
 pub mod Cases

@@ -35,7 +35,7 @@ use Rattle.law.proofs.Oversold.{passes-length}
 use Rattle.law.proofs.Packed.{held, packed-passes}
 use Rattle.offsets.specs.Offsets.{newGrants, fits, joined, others}
 use Rattle.offsets.specs.Adding.{withNew, test21, newTests, newList, newTableGrants, newTable}
-use Rattle.offsets.proofs.Fitting.{old-grants, new-grants, new-holds, new-rising, new-inside, new-law, chain-fits, passing-chain, standing}
+use Rattle.offsets.proofs.Fitting.{New, old-grants, new-grants, new-holds, new-rising, new-inside, new-law, chain-fits, passing-chain, standing}
 
 -- what tests 3 to 6, 21 and 7 leave of the new flow
 record Tested (fs : List Flow) (f : Flow) : Type 0 where
@@ -94,21 +94,25 @@ module _ (l t : List ℕ) (f : Flow) (passes : check l t ≡ Passed) (new : newT
   accepted-old : Accepted old
   accepted-old = accepted l (check-parts l t .0 passes .list)
 
-  reads : Reads old (grantsIn t)
-  reads = passes-reads old (grantsIn t) .0 (check-parts l t .0 passes .rules)
-
-  law : Law 0 old (grantsIn t)
-  law = check-is-lawful l t .0 passes .law
+  set : New old f (grantsIn t)
+  set =
+      record {
+        ok = ok;
+        low = is .low;
+        high = is .high;
+        reads = passes-reads old (grantsIn t) .0 (check-parts l t .0 passes .rules);
+        law = check-is-lawful l t .0 passes .law;
+      }
 
   -- the old grants stand as they stood, all of them
   pub old-stand : (o : ℕ) → others (f .number) (newTableGrants l t f o) ≡ grantsIn t
   unfolding newTableGrants
-  old-stand o = old-grants old f ok (is .low) (is .high) (grantsIn t) reads law o
+  old-stand o = old-grants old f (grantsIn t) set o
 
   -- and the grants besides them are the new flow's
   pub new-stand : (o : ℕ) → to (f .number) (newTableGrants l t f o) ≡ newGrants (cycle (flowsOf l)) f o
   unfolding newTableGrants
-  new-stand o = new-grants old f ok (is .low) (is .high) (grantsIn t) reads law o
+  new-stand o = new-grants old f (grantsIn t) set o
 
   -- a lawful table of the new list, as tests 14 to 18 read it
   lawful-reads : (u : List ℕ) → Lawful (newList l f) u → Reads all (grantsIn u)
@@ -124,9 +128,9 @@ module _ (l t : List ℕ) (f : Flow) (passes : check l t ≡ Passed) (new : newT
         let c : cycle (flowsOf (newList l f)) ≡ cycle old = ap cycle list-back ∙ cycle-same old f (is .low) (is .high) in
         let φ : frame (flowsOf (newList l f)) ≡ frame old = ap frame list-back ∙ frame-same old f (is .low) (is .high) in
         let tab = joined (newGrants (cycle old) f o) (grantsIn t) in
-        let rises = new-rising old f ok (is .low) (is .high) (grantsIn t) reads law o fit in
-        let obeys = new-law old f ok (is .low) (is .high) (grantsIn t) reads law o fit in
-        let inside = new-inside old f ok (is .low) (is .high) (grantsIn t) reads law o fit in
+        let rises = new-rising old f (grantsIn t) set o fit in
+        let obeys = new-law old f (grantsIn t) set o fit in
+        let inside = new-inside old f (grantsIn t) set o fit in
         let pass = check-is-law all ok tab .1 (rises, obeys, inside) in
         rw (c, φ) at (packed-passes (newList l f) tab list-tested (pass .0) (rw list-back (pass .1)))
 
@@ -137,11 +141,11 @@ module _ (l t : List ℕ) (f : Flow) (passes : check l t ≡ Passed) (new : newT
         let tab = joined (newGrants (cycle old) f o) (grantsIn t) in
         let rules = check-parts l t .0 passes .rules in
         let h =
-        new-holds old f ok (is .low) (is .high) (grantsIn t) reads law (passes-length old (accepted-old .distinct) (grantsIn t) rules)
+        new-holds old f (grantsIn t) set (passes-length old (accepted-old .distinct) (grantsIn t) rules)
         (held old accepted-old (grantsIn t) rules) o early in
         let back : grantsIn (newTable l t f o) ≡ tab = grants-table (cycle old) (frame old) tab h in
         let r : Reads all tab = subst (Reads all) back (lawful-reads (newTable l t f o) w) in
-        chain-fits old f ok (is .low) (is .high) (grantsIn t) reads law tab (passing-chain old f ok (is .low) (is .high) (grantsIn t) reads law tab r)
+        chain-fits old f (grantsIn t) set tab (passing-chain old f (grantsIn t) set tab r)
         (old-stand o) o (new-stand o)
 
     -- the new flow fits at an offset exactly where the new table is lawful for the new list
@@ -152,4 +156,4 @@ module _ (l t : List ℕ) (f : Flow) (passes : check l t ≡ Passed) (new : newT
   -- an offset at which it fits
   pub standing-fits : (u : List ℕ) → Lawful (newList l f) u → others (f .number) (grantsIn u) ≡ grantsIn t → All (λ g. g .late ≡ 0) (to (f .number) (grantsIn u))
       → (o : ℕ) × (o < f .interval) × (fits (flowsOf l) (grantsIn t) f o ≡ true)
-  standing-fits u w = standing old f ok (is .low) (is .high) (grantsIn t) reads law (grantsIn u) (lawful-reads u w)
+  standing-fits u w = standing old f (grantsIn t) set (grantsIn u) (lawful-reads u w)

@@ -4,3 +4,4 @@ pub mod Chains
 pub mod Rooms
 pub mod Exactly
 pub mod Entries
+pub mod Below
