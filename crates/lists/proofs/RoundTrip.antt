@@ -138,7 +138,7 @@ module _ (l : List ℕ) (b : (i : ℕ) → getD l i 0 < 256) where
     unfolding head headOf
     head-again = rw (length-flows l, head-fields) (packed-front ListHead l (omega (arith, known .exactly)) b)
 
-    records-again : records (flowsOf l) ≡ drop 4 l
+    pub records-again : records (flowsOf l) ≡ drop 4 l
     unfolding flowsOf
     records-again =
         records-run (flowsOf l)

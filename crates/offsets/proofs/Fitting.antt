@@ -75,7 +75,7 @@ module _ (fs : List Flow) (f : Flow) (gs : List Grant) (N : New fs f gs) where
   new-grants o = joined-own f o (grantsOf (cycle fs) f) gs strangers
 
   -- the new flow's grants fill the cycle
-  fills : grantsOf (cycle fs) f * f .interval ≡ cycle fs
+  pub fills : grantsOf (cycle fs) f * f .interval ≡ cycle fs
   unfolding grantsOf
   fills = rw same at (divides-cycle all (N .ok) f (mem-behind fs f []))
 

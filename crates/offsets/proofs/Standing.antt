@@ -23,7 +23,7 @@ use Rattle.lists.proofs.OneMore.{cycle-same, frame-same}
 use Rattle.lists.proofs.RoundTrip.{flows-back, list-passes}
 use Rattle.tables.specs.declared.packed.Grant.{Grant}
 use Rattle.tables.specs.Tables.{grantsOf as grantsIn, tableOf}
-use Rattle.tables.proofs.Meaning.{grants-table}
+use Rattle.tables.proofs.Meaning.{Holds, grants-table}
 use Rattle.law.specs.Check.{to, check}
 use Rattle.law.specs.Law.{Law}
 use Rattle.law.specs.Lawful.{Lawful}
@@ -94,8 +94,9 @@ module _ (l t : List ℕ) (f : Flow) (passes : check l t ≡ Passed) (new : newT
   accepted-old : Accepted old
   accepted-old = accepted l (check-parts l t .0 passes .list)
 
-  set : New old f (grantsIn t)
-  set =
+  -- the new flow beside the old grants
+  pub stands : New old f (grantsIn t)
+  stands =
       record {
         ok = ok;
         low = is .low;
@@ -107,12 +108,12 @@ module _ (l t : List ℕ) (f : Flow) (passes : check l t ≡ Passed) (new : newT
   -- the old grants stand as they stood, all of them
   pub old-stand : (o : ℕ) → others (f .number) (newTableGrants l t f o) ≡ grantsIn t
   unfolding newTableGrants
-  old-stand o = old-grants old f (grantsIn t) set o
+  old-stand o = old-grants old f (grantsIn t) stands o
 
   -- and the grants besides them are the new flow's
   pub new-stand : (o : ℕ) → to (f .number) (newTableGrants l t f o) ≡ newGrants (cycle (flowsOf l)) f o
   unfolding newTableGrants
-  new-stand o = new-grants old f (grantsIn t) set o
+  new-stand o = new-grants old f (grantsIn t) stands o
 
   -- a lawful table of the new list, as tests 14 to 18 read it
   lawful-reads : (u : List ℕ) → Lawful (newList l f) u → Reads all (grantsIn u)
@@ -128,24 +129,27 @@ module _ (l t : List ℕ) (f : Flow) (passes : check l t ≡ Passed) (new : newT
         let c : cycle (flowsOf (newList l f)) ≡ cycle old = ap cycle list-back ∙ cycle-same old f (is .low) (is .high) in
         let φ : frame (flowsOf (newList l f)) ≡ frame old = ap frame list-back ∙ frame-same old f (is .low) (is .high) in
         let tab = joined (newGrants (cycle old) f o) (grantsIn t) in
-        let rises = new-rising old f (grantsIn t) set o fit in
-        let obeys = new-law old f (grantsIn t) set o fit in
-        let inside = new-inside old f (grantsIn t) set o fit in
+        let rises = new-rising old f (grantsIn t) stands o fit in
+        let obeys = new-law old f (grantsIn t) stands o fit in
+        let inside = new-inside old f (grantsIn t) stands o fit in
         let pass = check-is-law all ok tab .1 (rises, obeys, inside) in
         rw (c, φ) at (packed-passes (newList l f) tab list-tested (pass .0) (rw list-back (pass .1)))
+
+    -- a packed table can hold the grants of the new table
+    pub new-held : o < f .interval → Holds (cycle (flowsOf l)) (frame (flowsOf l)) (newTableGrants l t f o)
+    unfolding newTableGrants
+    new-held early =
+        let rules = check-parts l t .0 passes .rules in
+        new-holds old f (grantsIn t) stands (passes-length old (accepted-old .distinct) (grantsIn t) rules) (held old accepted-old (grantsIn t) rules) o early
 
     -- and where the new table is lawful the flow fits
     lawful-fits : o < f .interval → Lawful (newList l f) (newTable l t f o) → fits (flowsOf l) (grantsIn t) f o ≡ true
     unfolding newTable newTableGrants
     lawful-fits early w =
         let tab = joined (newGrants (cycle old) f o) (grantsIn t) in
-        let rules = check-parts l t .0 passes .rules in
-        let h =
-        new-holds old f (grantsIn t) set (passes-length old (accepted-old .distinct) (grantsIn t) rules)
-        (held old accepted-old (grantsIn t) rules) o early in
-        let back : grantsIn (newTable l t f o) ≡ tab = grants-table (cycle old) (frame old) tab h in
+        let back : grantsIn (newTable l t f o) ≡ tab = grants-table (cycle old) (frame old) tab (new-held early) in
         let r : Reads all tab = subst (Reads all) back (lawful-reads (newTable l t f o) w) in
-        chain-fits old f (grantsIn t) set tab (passing-chain old f (grantsIn t) set tab r)
+        chain-fits old f (grantsIn t) stands tab (passing-chain old f (grantsIn t) stands tab r)
         (old-stand o) o (new-stand o)
 
     -- the new flow fits at an offset exactly where the new table is lawful for the new list
@@ -156,4 +160,4 @@ module _ (l t : List ℕ) (f : Flow) (passes : check l t ≡ Passed) (new : newT
   -- an offset at which it fits
   pub standing-fits : (u : List ℕ) → Lawful (newList l f) u → others (f .number) (grantsIn u) ≡ grantsIn t → All (λ g. g .late ≡ 0) (to (f .number) (grantsIn u))
       → (o : ℕ) × (o < f .interval) × (fits (flowsOf l) (grantsIn t) f o ≡ true)
-  standing-fits u w = standing old f (grantsIn t) set (grantsIn u) (lawful-reads u w)
+  standing-fits u w = standing old f (grantsIn t) stands (grantsIn u) (lawful-reads u w)
