@@ -1,63 +1,26 @@
--- What is noted for numbers and flows: the list record of each number, and in each flow's cell how many grants it has or its last one.
--- Assumes nothing.
+-- What is noted for the flows: in each flow's cell how many grants it has, or its last one. Assumes nothing.
 use mathlib.Core.Path.{_≡_, refl, sym, ap, _∙_}
 use mathlib.Core.List.{List}
 use mathlib.Core.Option.{Option, none, some}
-use Prim.Native.Nat.{ℕ, _+_, _%_, _≤_, _<_, min}
+use Prim.Native.Nat.{ℕ, _+_, _%_, _≤_, _<_}
 use native.Mathlib.Omega.{arith}
-use native.Mathlib.Nat.{mod-lt, mod-eq-of-lt}
-use lib.Dec.{eqb, ltb, lit<}
-use lib.ListN.{length, getD, set, drop, replicate, length-set, getD-replicate, drop-of-length-le}
+use native.Mathlib.Nat.{mod-eq-of-lt}
+use lib.Dec.{eqb, ltb}
+use lib.ListN.{length, getD, set, replicate, getD-replicate}
 use lib.Seq.{getD-set-same, getD-set-other}
 use borrow.Author.Tests.{eq-eqb, ne-eqb}
-use Rattle.logic.proofs.Tests.{by-lt, by-eq}
+use Rattle.logic.proofs.Tests.{by-eq}
 use Rattle.flows.specs.declared.flow.Flow.{Flow}
 use Rattle.flows.specs.Flows.{noFlow}
 use Rattle.refusals.proofs.Walks.{before}
 use Rattle.tables.specs.declared.packed.Grant.{Grant}
 use Rattle.law.specs.Check.{nominal, last, steps}
 use Rattle.law.specs.Law.{blank}
-use Rattle.checking.specs.Parts.{found, recordOf, Indexed, Celled, Counts, stampOf}
-use Rattle.checking.proofs.Turns.{found-next, CountAt, count-end, count-own, count-other, last-here, last-next}
+use Rattle.finding.specs.Parts.{recordOf, Indexed}
+use Rattle.checking.specs.Parts.{Celled, Counts, stampOf}
+use Rattle.checking.proofs.Turns.{CountAt, count-end, count-own, count-other, last-here, last-next}
 
--- ---- the records that are noted for the numbers
-
--- what was noted last for a number is read back
-note : (rs : List ℕ) (k i x : ℕ) → length rs ≡ 1024 → x % 1024 ≡ k % 1024 → recordOf (set rs (k % 1024) i) x ≡ i
-note rs k i x l e = rw e (getD-set-same rs (k % 1024) i 0 (rw l (mod-lt k (lit< tt))))
-
--- nothing is noted
-pub indexed-none : (fs : List Flow) (rs : List ℕ) (i : ℕ) → i ≡ min (length fs) 128 → rs ≡ replicate 1024 128 → Indexed fs i rs
-indexed-none fs rs i e q =
-    record {
-      entries = ap length q;
-      low = λ x. omega (arith, is x);
-      starts = λ x. rw (is x) (by-lt (length fs) 128
-          (λ h. rw (drop-of-length-le fs {i = 128} (omega arith), drop-of-length-le fs {i = i} (omega arith)))
-          (λ h. let z : i ≡ 128 = omega arith in rw z));
-      own = λ x h. absurd (omega (arith, is x));
-    }
-  where
-    is : (x : ℕ) → recordOf rs x ≡ 128
-    is x = ap (λ (ks : List ℕ). getD ks (x % 1024) 0) q ∙ getD-replicate 1024 (x % 1024) 128 0 (mod-lt x (lit< tt))
-
--- record k is noted, over those behind it
-pub indexed-next : (fs : List Flow) (rs : List ℕ) (i k : ℕ) (f : Flow) → Indexed fs i rs → k + 1 ≡ i → k < 128 → k < length fs → f ≡ getD fs k noFlow
-    → Indexed fs k (set rs (f .number % 1024) k)
-indexed-next fs rs i k f a s h l e =
-    record {
-      entries = simp length-set (a .entries);
-      low = λ x. by-eq (x % 1024) (f .number % 1024)
-          (λ q. omega (arith, note rs (f .number) k x (a .entries) q))
-          (λ n. omega (arith, getD-set-other rs (f .number % 1024) (x % 1024) k 0 n, a .low x));
-      starts = λ x. by-eq (x % 1024) (f .number % 1024)
-          (λ q. rw (note rs (f .number) k x (a .entries) q))
-          (λ n. rw (getD-set-other rs (f .number % 1024) (x % 1024) k 0 n)
-          (a .starts x ∙ ap (λ (j : ℕ). found (drop j fs) x) (sym s) ∙ sym (found-next fs x k l f e (λ q. n (ap (λ (y : ℕ). y % 1024) (sym q))))));
-      own = λ x. by-eq (x % 1024) (f .number % 1024)
-          (λ q h. rw (note rs (f .number) k x (a .entries) q) (ap (λ (y : Flow). y .number % 1024) (sym e) ∙ sym q))
-          (λ n. rw (getD-set-other rs (f .number % 1024) (x % 1024) k 0 n) (a .own x));
-    }
+-- ---- the cells of the flows
 
 -- the cells of a list whose records are noted
 pub celled : (fs : List Flow) (i : ℕ) (rs : List ℕ) → Indexed fs i rs → Celled rs

@@ -1,41 +1,16 @@
 -- One turn of each loop of the check: what is left to look at, at entry i. Assumes nothing.
 use mathlib.Core.Path.{_≡_, ap, _∙_}
-use mathlib.Core.Bool.{true, false}
 use mathlib.Core.List.{List, _∷_}
 use mathlib.Core.Option.{some}
 use Prim.Native.Nat.{ℕ, suc, _+_, _≤_, _<_}
-use native.Mathlib.Numerals.{add-one}
 use native.Mathlib.Omega.{arith}
 use lib.ListN.{length, getD, drop, drop-of-length-le}
-use lib.Seq.{drop-cons}
 use borrow.Author.Tests.{eq-eqb, ne-eqb}
-use Rattle.flows.specs.declared.flow.Flow.{Flow}
-use Rattle.flows.specs.Flows.{noFlow}
+use Rattle.logic.proofs.Indices.{opens}
 use Rattle.refusals.proofs.Walks.{before}
 use Rattle.tables.specs.declared.packed.Grant.{Grant}
-use Rattle.law.specs.Check.{known, look, nominal, to, last}
+use Rattle.law.specs.Check.{nominal, to, last}
 use Rattle.law.specs.Law.{blank}
-use Rattle.checking.specs.Parts.{found}
-
--- entry i and those after it
-opens : {A : Type 0} (xs : List A) (d x : A) (i : ℕ) → i < length xs → x ≡ getD xs i d → drop i xs ≡ x ∷ drop (i + 1) xs
-opens xs d x i h e = rw (add-one, e) (drop-cons xs i d h)
-
--- ---- the flow of a number, from record i on
-
-module _ (fs : List Flow) (x i : ℕ) where
-  pub found-end : length fs ≤ i → record { known = false; flow = noFlow } ≡ found (drop i fs) x
-  unfolding known look
-  found-end h = rw (drop-of-length-le fs h)
-
-  module _ (h : i < length fs) (f : Flow) (e : f ≡ getD fs i noFlow) where
-    pub found-here : f .number ≡ x → record { known = true; flow = f } ≡ found (drop i fs) x
-    unfolding known look
-    found-here q = rw (opens fs noFlow f i h e, known, look, eq-eqb (f .number) x q)
-
-    pub found-next : (f .number ≡ x → ⊥) → found (drop i fs) x ≡ found (drop (i + 1) fs) x
-    unfolding known look
-    found-next n = rw (opens fs noFlow f i h e, known, look, ne-eqb (f .number) x n)
 
 -- ---- the grants of a flow: k of them before record i
 

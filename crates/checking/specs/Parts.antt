@@ -1,13 +1,12 @@
--- What the code's own parts answer: a flow looked up, what is noted for it, and what one walk over the grants notes. Assumes nothing.
+-- What the code's own parts answer: what is noted for the flows, and what one walk over the grants notes. Assumes nothing.
 use mathlib.Core.Path.{_≡_}
 use mathlib.Core.Bool.{Bool, true, false, _&&_}
 use mathlib.Core.List.{List}
 use mathlib.Core.Option.{Option, none, some}
-use Prim.Native.Nat.{ℕ, zero, suc, _+_, _%_, _≤_, _<_}
+use Prim.Native.Nat.{ℕ, zero, suc, _+_, _≤_, _<_}
 use lib.Dec.{leb, eqb}
-use lib.ListN.{length, getD, drop}
+use lib.ListN.{length, getD}
 use Rattle.flows.specs.declared.flow.Flow.{Flow}
-use Rattle.flows.specs.Flows.{noFlow}
 use Rattle.refusals.specs.declared.Refusal.{Refusal}
 use Rattle.refusals.specs.declared.Refusal.the-variants.{UnknownFlow, Timing, Overlap, PastCycle}
 use Rattle.refusals.specs.declared.Checked.{Checked}
@@ -16,24 +15,9 @@ use Rattle.refusals.specs.Tests.{_⟫_}
 use Rattle.lists.specs.Facts.{occupies}
 use Rattle.tables.specs.declared.packed.Grant.{Grant}
 use Rattle.tables.specs.Tables.{cycleOf, frameOf}
-use Rattle.checking.specs.declared.finding.Found.{Found}
+use Rattle.finding.specs.Parts.{recordOf}
 use Rattle.checking.specs.declared.faults.Seen.{Seen}
-use Rattle.law.specs.Check.{known, look, to, test14, test16, test17, test18}
-
--- the flow of that number, and whether the list has it
-abbrev pub found : List Flow → ℕ → Found
-found fs x = record { known = known fs x; flow = look fs x }
-
--- the list record, counted from 0, that is noted for a number; numbers are below 1,024
-abbrev pub recordOf : List ℕ → ℕ → ℕ
-recordOf rs x = getD rs (x % 1024) 0
-
--- the records from i on are noted: a search that starts at the one noted for a number finds what a search from i on finds, and that one has the number
-pub record Indexed (fs : List Flow) (i : ℕ) (rs : List ℕ) : Type 0 where
-  pub entries : length rs ≡ 1024
-  pub low : (x : ℕ) → recordOf rs x ≤ 128
-  pub starts : (x : ℕ) → found (drop (recordOf rs x) fs) x ≡ found (drop i fs) x
-  pub own : (x : ℕ) → recordOf rs x < 128 → getD fs (recordOf rs x) noFlow .number % 1024 ≡ x % 1024
+use Rattle.law.specs.Check.{to, test14, test16, test17, test18}
 
 -- the records noted tell cells apart: each number has one, and no two that a record is noted for share it
 pub record Celled (rs : List ℕ) : Type 0 where

@@ -9,8 +9,8 @@ ghost use Rattle.tables.specs.Tables.{grantsOf};
 ghost use Rattle.law.specs.Check.{to, test15};
 ghost use Rattle.checking.specs.Parts.{Celled, Counts, noted};
 use crate::cells::clear;
-use crate::finding::FLOWS;
-use crate::finding::record_of;
+use finding::FLOWS;
+use finding::record_of;
 
 // How many grants of the table are those of the flow of that number.
 fn grants_to(table: &[u8], number: u16) -> usize

@@ -5,7 +5,6 @@ mod belongs;
 mod cells;
 mod counts;
 mod faults;
-mod finding;
 mod tests;
 mod timing;
 

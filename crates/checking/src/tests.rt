@@ -4,15 +4,14 @@ ghost use Rattle.lists.specs.Lists.{flowsOf};
 ghost use Rattle.lists.specs.Facts.{cycle as cycleOf};
 ghost use Rattle.tables.specs.Tables.{grantsOf};
 ghost use Rattle.law.specs.Check.{tests14to18, lawTests, check};
-ghost use Rattle.checking.specs.Parts.{Indexed};
+ghost use Rattle.finding.specs.Parts.{Indexed};
 use crate::belongs::belongs;
 use crate::cells::CELLS;
 use crate::counts::test_15;
 use crate::faults::answer;
 use crate::faults::faults;
-use crate::finding::ABSENT;
-use crate::finding::NUMBERS;
-use crate::finding::index;
+use finding::NUMBERS;
+use finding::index;
 use refusals::Checked;
 use refusals::Refusal;
 
@@ -36,7 +35,7 @@ pub fn law_tests(list: &[u8], table: &[u8]) -> Checked
     if !belongs(cycle, span.frame, table) {
         return Checked::Refused(Refusal::OtherCycle);
     }
-    let mut records = [ABSENT; NUMBERS];
+    let mut records = [0u8; NUMBERS];
     index(list, &mut records);
     tests_14_to_18(list, &records, cycle, table)
 }

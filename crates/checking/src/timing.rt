@@ -11,7 +11,7 @@ ghost use Rattle.tables.specs.Tables.{count, grantsOf};
 ghost use Rattle.law.specs.Check.{look, nominal, last, steps, timely};
 ghost use Rattle.law.specs.Law.{blank};
 ghost use Rattle.checking.specs.Parts.{stampOf};
-use crate::finding::FLOWS;
+use finding::FLOWS;
 use flows::Flow;
 use tables::Grant;
 

@@ -28,14 +28,24 @@ flow-part l i = ap flowOf (part-to-end (place i) l)
 
 -- ---- the flows of a list
 
-pub length-flows : (l : List ℕ) → length (flowsOf l) ≡ count l
-unfolding flowsFrom flowsOf
-length-flows l = length-from (flowAt l) (flowsFrom l) (λ i. refl) (λ i n. refl) 0 (count l)
+-- n records, from the first on: what the code reads at record i is flow i
+module _ (l : List ℕ) (n : ℕ) where
+  pub length-first : length (flowsFrom l 0 n) ≡ n
+  unfolding flowsFrom
+  length-first = length-from (flowAt l) (flowsFrom l) (λ i. refl) (λ i n. refl) 0 n
 
--- what the code reads at record i is flow i
+  pub first-is : (i : ℕ) (f : Flow) → i < n → f ≡ flowAt l i → f ≡ getD (flowsFrom l 0 n) i noFlow
+  unfolding flowsFrom
+  first-is = entry-is (flowAt l) (flowsFrom l) (λ i. refl) (λ i n. refl) noFlow n
+
+-- as many as the head says
+pub length-flows : (l : List ℕ) → length (flowsOf l) ≡ count l
+unfolding flowsOf
+length-flows l = length-first l (count l)
+
 pub flow-is : (l : List ℕ) (i : ℕ) (f : Flow) → i < count l → f ≡ flowAt l i → f ≡ getD (flowsOf l) i noFlow
-unfolding flowsFrom flowsOf
-flow-is l = entry-is (flowAt l) (flowsFrom l) (λ i. refl) (λ i n. refl) noFlow (count l)
+unfolding flowsOf
+flow-is l = first-is l (count l)
 
 -- ---- writing
 

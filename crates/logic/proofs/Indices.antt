@@ -2,8 +2,14 @@
 use mathlib.Core.Path.{_≡_, sym, ap, _∙_}
 use mathlib.Core.List.{List, [], _∷_}
 use Prim.Native.Nat.{ℕ, zero, suc, _+_, _<_}
+use native.Mathlib.Numerals.{add-one}
 use native.Mathlib.Omega.{arith}
-use lib.ListN.{length, getD}
+use lib.ListN.{length, getD, drop}
+use lib.Seq.{drop-cons}
+
+-- entry i and those after it
+pub opens : {A : Type 0} (xs : List A) (d x : A) (i : ℕ) → i < length xs → x ≡ getD xs i d → drop i xs ≡ x ∷ drop (i + 1) xs
+opens xs d x i h e = rw (add-one, e) (drop-cons xs i d h)
 
 -- n entries from index i on, whichever way they are written down
 module _ {ℓ} {A : Type ℓ} (at : ℕ → A) (from : ℕ → ℕ → List A)

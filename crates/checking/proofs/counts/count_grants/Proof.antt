@@ -42,7 +42,7 @@ grant-at-requires : tie.Need-grant-at-requires Inv-loop μ-loop
 grant-at-requires c κs = search needs
 
 record-of-requires : tie.Need-record-of-requires Inv-loop μ-loop
-record-of-requires c κs = start (c .before .before .before) .pre .0 .entries
+record-of-requires c κs = search needs
 
 -- the number has a cell
 inside : (c : tie.After-record-of Inv-loop μ-loop) → c .record-of .result < length (c .before .before .before .loop .cells)

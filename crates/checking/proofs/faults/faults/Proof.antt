@@ -12,8 +12,9 @@ use Rattle.tables.specs.Tables.{grantsOf}
 use Rattle.tables.proofs.Records.{length-grants, grant-is}
 use Rattle.law.specs.Check.{listed}
 use Rattle.law.specs.Law.{blank}
-use Rattle.checking.specs.declared.finding.Found.{Found}
-use Rattle.checking.specs.Parts.{found}
+use Rattle.finding.specs.declared.Found.{Found}
+use Rattle.finding.specs.Parts.{found}
+use Rattle.finding.proofs.Records.{found-noted}
 use Rattle.checking.proofs.Widths.{grant-small}
 use Rattle.checking.proofs.Notes.{celled, Lasts, lasts-none, lasts-next}
 use Rattle.checking.proofs.Walked.{Walked, walked-none, walked-next, walked-unknown, walked-end}
@@ -65,7 +66,7 @@ small : (c : tie.After-grant-at Inv-loop μ-loop) → (c .grant-at .result .flow
 small c = rw (c .grant-at .ensures) (grant-small (start (c .before .before .before) .args .table .now) (c .before .before .loop .i))
 
 record-of-requires : tie.Need-record-of-requires Inv-loop μ-loop
-record-of-requires c κs = start (c .before .before .before) .pre .0 .0 .entries
+record-of-requires c κs = search needs
 
 -- the number has a cell
 cell : (c : tie.After-record-of Inv-loop μ-loop) → c .record-of .result < length (c .before .before .before .loop .cells)
@@ -74,15 +75,18 @@ cell c =
     omega (arith, v .inv .1, c .record-of .ensures, start (c .before .before .before .before) .pre .0 .0 .low (c .before .grant-at .result .flow))
 
 find-requires : tie.Need-find-requires Inv-loop μ-loop
-find-requires c κs = c .before .before .before .before .count2 .ensures .0
+find-requires c κs = search needs
 
 -- what was found is the list's flow
 located : (c : tie.After-find Inv-loop μ-loop)
     → let g = c .before .before in
     c .find .result ≡ found (flowsOf (start (g .before .before .before) .args .list .now)) (g .grant-at .result .flow)
 located c =
-    let g = c .before .before in
-    c .find .ensures ∙ rw (c .before .record-of .ensures) (start (g .before .before .before) .pre .0 .0 .starts (g .grant-at .result .flow))
+    let r = c .before in
+    let g = r .before in
+    let n = g .before .before .before in
+    let s = start n in
+    found-noted (s .args .list .now) (s .args .records .now) (s .pre .0 .0) _ _ (g .grant-at .result .flow) (n .count2 .ensures .0) (r .record-of .ensures) (c .find .result) (c .find .ensures)
 
 add-t15 : tie.Need-add-t15 Inv-loop μ-loop
 add-t15 c = search needs

@@ -1,6 +1,6 @@
 -- `checking::tests::law_tests` meets its contract.
 -- Assumes nothing.
-use mathlib.Core.Path.{ap}
+use mathlib.Core.Path.{refl, ap}
 use borrow.Author.Tests.{not-true, not-false}
 use borrow.Author.Needs.{needs}
 use Rattle.refusals.proofs.Chains.{first-refuses, first-passes}
@@ -38,7 +38,7 @@ tests-14-to-18-requires : tie.Need-tests-14-to-18-requires
 tests-14-to-18-requires c κs =
     let i = c .before .before in
     let f = i .before .before .before .before in
-    (i .index .ensures, ap (λ (x : Span). x .cycle) (f .span-of .ensures))
+    (i .index .ensures refl, ap (λ (x : Span). x .cycle) (f .span-of .ensures))
 
 returns-2 : tie.Need-returns-2
 unfolding lawTests

@@ -1,22 +1,27 @@
--- `checking::finding::index` meets its contract.
+-- `finding::index` meets its contract.
 -- Assumes nothing.
 use mathlib.Core.Path.{_≡_, ap, _∙_}
 use Prim.Native.Nat.{ℕ, _-_, _≤_, min}
 use native.Mathlib.Omega.{arith}
-use lib.ListN.{length}
 use borrow.Author.Needs.{needs}
 use Rattle.lists.specs.Lists.{flowsOf}
 use Rattle.lists.proofs.Records.{length-flows, flow-is}
-use Rattle.checking.specs.Parts.{Indexed}
-use Rattle.checking.proofs.Notes.{indexed-none, indexed-next}
-use Rattle.checking.proofs.finding.index.Statement.{statement}
-use Rattle.checking.proofs.finding.index.Tie as tie
+use Rattle.finding.specs.Parts.{Indexed}
+use Rattle.finding.proofs.Records.{indexed-none, indexed-next}
+use Rattle.finding.proofs.index.Statement.{statement}
+use Rattle.finding.proofs.index.Tie as tie
 
 abbrev Inv-loop : tie.InvT-loop
 Inv-loop list records₀ i₀ records i = (i ≤ i₀) × Indexed (flowsOf list) i records
 
 abbrev μ-loop : tie.MeasureT-loop
 μ-loop list records₀ i₀ records i = i
+
+returns : tie.Need-returns Inv-loop μ-loop
+returns c = λ e. absurd (c .if1 .taken e)
+
+forget-requires : tie.Need-forget-requires Inv-loop μ-loop
+forget-requires c κs = search needs
 
 count-requires : tie.Need-count-requires Inv-loop μ-loop
 count-requires c κs = search needs
@@ -26,9 +31,14 @@ noted-requires c κs = search needs
 
 loop-holds : tie.Need-loop-holds Inv-loop μ-loop
 loop-holds c =
-    let s = c .before .before .before .before in
-    let l = length-flows (s .args .list .now) in
-    (omega arith, indexed-none (flowsOf (s .args .list .now)) (s .args .records .now) (c .noted .result) (rw l (c .noted .ensures ∙ ap (λ (n : ℕ). min n 128) (c .before .count .ensures .0))) (s .pre))
+    let f = c .before .before .before .before in
+    let e = f .before .before in
+    let l = e .before .before .before .args .list .now in
+    let n = length-flows l in (
+      omega arith,
+      indexed-none (flowsOf l) (f .forget .last .0) (c .noted .result) (rw n (c .noted .ensures ∙ ap (λ (n : ℕ). min n 128) (c .before .count .ensures .0)))
+          (omega (arith, f .forget .kept .0)) (λ k h. f .forget .ensures k (omega arith)),
+    )
 
 sub-i : tie.Need-sub-i Inv-loop μ-loop
 sub-i c = search needs
@@ -52,26 +62,24 @@ loop-again : tie.Need-loop-again Inv-loop μ-loop
 loop-again c =
     let v = c .before .before .before .loop in
     let n = c .before .before .before .before in
-    let a = n .before .before .before .before .args in
+    let l = n .before .before .before .before .before .before .before .before .before .args .list .now in
     let f = c .before .flow-at in
     let few = n .noted .ensures in
     let some = n .before .count .ensures .0 in (
       omega arith,
       rw (c .entry .ensures .0)
-          (indexed-next (flowsOf (a .list .now)) (v .records) (v .i) (v .i - 1) (f .result) (v .inv .1) (omega arith) (omega arith) (omega (arith, length-flows (a .list .now)))
-          (flow-is (a .list .now) (v .i - 1) (f .result) (omega arith) (f .ensures))),
+          (indexed-next (flowsOf l) (v .records) (v .i) (v .i - 1) (f .result) (v .inv .1) (omega arith) (omega arith) (omega (arith, length-flows l))
+          (flow-is l (v .i - 1) (f .result) (omega arith) (f .ensures))),
     )
 
 same-length : tie.Need-same-length Inv-loop μ-loop
-same-length c =
-    let s = c .before .before .before .before .before .before in
-    omega (arith, c .before .loop .inv .1 .entries, ap length (s .pre))
+same-length c = omega (arith, c .before .loop .inv .1 .entries)
 
-returns : tie.Need-returns Inv-loop μ-loop
-returns c =
+returns-2 : tie.Need-returns-2 Inv-loop μ-loop
+returns-2 c =
     let v = c .before .loop in
     let z : v .i ≡ 0 = omega arith in
-    rw z at (v .inv .1)
+    λ e. rw z at (v .inv .1)
 
 pub index-spec : {M : Type 1} → statement M
 index-spec =
@@ -79,6 +87,8 @@ index-spec =
     (tie.spec
     Inv-loop
     μ-loop
+    returns
+    forget-requires
     count-requires
     noted-requires
     loop-holds
@@ -90,4 +100,4 @@ index-spec =
     loop-less
     loop-again
     same-length
-    returns)
+    returns-2)
