@@ -74,11 +74,12 @@ module _ (l t : List ℕ) (f : Flow) (passes : check l t ≡ Passed) (new : newT
   is : Tested old f
   is = tested old f new
 
-  -- the new list is read back, and passes tests 1 to 7
-  list-back : flowsOf (newList l f) ≡ all
+  -- the new list's flows are the old ones, and behind them the new one
+  pub list-back : flowsOf (newList l f) ≡ flowsOf l ++ (f ∷ [])
   unfolding newList withNew
   list-back = flows-back all (is .few .0) (is .few .1) (kept-exactly all .0 (is .kept))
 
+  -- they pass tests 1 to 7
   list-tested : tests1to7 (newList l f) ≡ Passed
   unfolding newList withNew tests1to7
   list-tested =
