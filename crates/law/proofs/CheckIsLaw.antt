@@ -4,7 +4,7 @@ use mathlib.Core.Bool.{true}
 use mathlib.Core.Logic.{_↔_}
 use mathlib.Core.List.{List, []}
 use mathlib.Core.Option.{none}
-use Prim.Native.Nat.{ℕ, zero, suc, _+_, _*_, _≤_, _<_}
+use Prim.Native.Nat.{ℕ, _+_, _≤_, _<_}
 use native.Mathlib.Omega.{arith}
 use native.Mathlib.Nat.{div-eq-of-eq-mul-left}
 use lib.ListN.{length, length-map}
@@ -15,7 +15,7 @@ use Rattle.flows.specs.declared.flow.Flow.{Flow}
 use Rattle.refusals.specs.declared.Checked.the-variants.{Passed}
 use Rattle.lists.specs.Facts.{occupies, cycle, grantsOf}
 use Rattle.lists.specs.Accepted.{Accepted}
-use Rattle.lists.proofs.Cycle.{cycle-le, occupies-pos, interval-pos, divides-cycle, granted}
+use Rattle.lists.proofs.Cycle.{occupies-pos, interval-pos, divides-cycle, granted}
 use Rattle.tables.specs.declared.packed.Grant.{Grant}
 use Rattle.tables.specs.Form.{test12}
 use Rattle.law.specs.Check.{known, look, slots, nominal, to, last, tests14to18}

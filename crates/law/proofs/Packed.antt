@@ -1,11 +1,10 @@
 -- Grants that pass tests 12 and 14 to 18 fit a packed table, and that table passes the check. Assumes nothing.
-use mathlib.Core.Path.{_≡_, refl, ap, _∙_}
+use mathlib.Core.Path.{_≡_}
 use mathlib.Core.Bool.{true}
 use mathlib.Core.List.{List, []}
 use Prim.Native.Nat.{ℕ, _+_, _≤_, _<_}
 use native.Mathlib.Omega.{arith}
 use borrow.Author.Tests.{eq-eqb}
-use Rattle.logic.specs.Lists.{All}
 use Rattle.logic.proofs.Tests.{both-and}
 use Rattle.logic.proofs.Members.{all-mem, mem-all}
 use Rattle.flows.specs.declared.flow.Flow.{Flow}

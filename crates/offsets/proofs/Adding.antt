@@ -1,35 +1,27 @@
 -- Live add: the new pair passes the check, the offset is the smallest, and 22 is answered where there is none. Assumes nothing.
-use mathlib.Core.Path.{_≡_, refl, sym, ap, _∙_}
-use mathlib.Core.Bool.{true, false, _&&_}
+use mathlib.Core.Path.{_≡_, refl, sym, _∙_}
+use mathlib.Core.Bool.{true, false}
 use mathlib.Core.Logic.{_↔_}
-use mathlib.Core.List.{List, [], map}
+use mathlib.Core.List.{List}
 use mathlib.Core.Option.{Option, none, some}
 use Prim.Native.Nat.{ℕ, _<_}
 use native.Mathlib.Omega.{arith}
-use lib.Dec.{lit<}
-use lib.ListN.{length}
 use Rattle.logic.specs.Lists.{All}
 use Rattle.logic.proofs.Tests.{by-test, true-not-false}
 use Rattle.flows.specs.declared.flow.Flow.{Flow}
-use Rattle.flows.specs.Flows.{keeps}
-use Rattle.refusals.specs.declared.Refusal.{Refusal}
-use Rattle.refusals.specs.declared.Refusal.the-variants.{Length, Head, Count, Field, UsedNumber, Unrelated, Limits, Room, TableForm, NotRising, OtherCycle, UnknownFlow, GrantCount, Timing, Overlap, PastCycle, OutsideSpan, NoOffset}
+use Rattle.refusals.specs.declared.Refusal.the-variants.{NoOffset}
 use Rattle.refusals.specs.declared.Checked.{Checked}
 use Rattle.refusals.specs.declared.Checked.the-variants.{Passed, Refused}
-use Rattle.refusals.specs.Tests.{_⟫_}
 use Rattle.refusals.proofs.Chains.{refused-not, both-passed}
 use Rattle.refusals.proofs.Below.{second-refuses}
 use Rattle.lists.specs.Lists.{flowsOf}
-use Rattle.lists.specs.Tests.{test1, test2, test3, test1exact, test4, test5, test6, test7, tests1to4, tests1to7}
 use Rattle.tables.specs.declared.packed.Grant.{Grant}
 use Rattle.tables.specs.Tables.{grantsOf as grantsIn}
-use Rattle.tables.specs.Form.{test11, test12, formTests}
-use Rattle.law.specs.Check.{to, test13, test14, test15, test16, test17, test18, tests14to18, lawTests, check}
+use Rattle.law.specs.Check.{to, check}
 use Rattle.law.specs.Lawful.{Lawful}
-use Rattle.offsets.specs.declared.Added.{Added}
 use Rattle.offsets.specs.declared.Added.the-variants.{Offset, Refused as Stopped}
 use Rattle.offsets.specs.Offsets.{fits, offset, others}
-use Rattle.offsets.specs.Adding.{withNew, test21, newTests, test9, test22, addTests, offsetFound, newList, newTable, tableAdded, addAnswer}
+use Rattle.offsets.specs.Adding.{newTests, test9, test22, addTests, offsetFound, newList, newTable, tableAdded, addAnswer}
 use Rattle.offsets.proofs.Smallest.{smallest-exactly, none-exactly}
 use Rattle.offsets.proofs.Numbers.{check-below, new-below, room-below}
 use Rattle.offsets.proofs.Standing.{fits-passes, fits-exactly, standing-fits}
@@ -88,9 +80,11 @@ offset-smallest l t f n m o e =
     let a = answered l t f n m o e in
     let y = tested l t f n m (a .0) in
     let lawful = fits-exactly l t f (y .passes) (y .new) in
-    rw (← a .1)
-    (y .below, lawful (offsetFound (flowsOf l) (grantsIn t) f) (y .below) .0 (y .fit),
-    λ j h w. true-not-false (sym (lawful j (omega (arith, y .below)) .1 w) ∙ y .smaller j h))
+    rw (← a .1) (
+      y .below,
+      lawful (offsetFound (flowsOf l) (grantsIn t) f) (y .below) .0 (y .fit),
+      λ j h w. true-not-false (sym (lawful j (omega (arith, y .below)) .1 w) ∙ y .smaller j h),
+    )
 
 -- ---- where no offset is found
 

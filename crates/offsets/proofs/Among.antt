@@ -1,11 +1,10 @@
 -- The grants of one flow, and of every other, in a table with new grants. Assumes nothing.
 use mathlib.Core.Path.{_≡_, refl, ap, _∙_}
-use mathlib.Core.Bool.{Bool, true, false}
 use mathlib.Core.List.{List, [], _∷_, map}
-use Prim.Native.Nat.{ℕ, zero, suc, _+_, _≤_, _<_}
+use Prim.Native.Nat.{ℕ, zero, suc, _+_, _≤_}
 use native.Mathlib.Omega.{arith}
 use lib.Dec.{eqb}
-use borrow.Author.Tests.{lt-ltb, le-ltb, eqb-true, eqb-false, eq-eqb, ne-eqb}
+use borrow.Author.Tests.{lt-ltb, le-ltb, eqb-false, eq-eqb, ne-eqb}
 use Rattle.logic.specs.Lists.{All}
 use Rattle.logic.proofs.Tests.{by-test, by-lt}
 use Rattle.logic.proofs.Members.{all-imp}
@@ -87,11 +86,14 @@ insert-others x n (g ∷ gs) e =
 
 -- ---- new grants put among the old ones
 
--- the new flow's number, late 0
-pub from-own : (f : Flow) (x n : ℕ) → All (λ g. (g .flow ≡ f .number) × (g .late ≡ 0)) (grantsFrom f x n)
+-- a grant of the flow, not late
+abbrev pub Prompt : Flow → Grant → Type 0
+Prompt f g = (g .flow ≡ f .number) × (g .late ≡ 0)
+
+pub from-prompt : (f : Flow) (x n : ℕ) → All (Prompt f) (grantsFrom f x n)
 unfolding grantsFrom
-from-own f x zero = tt
-from-own f x (suc n) = ((refl, refl), from-own f (x + f .interval) n)
+from-prompt f x zero = tt
+from-prompt f x (suc n) = ((refl, refl), from-prompt f (x + f .interval) n)
 
 -- the other flows' grants stay as they are
 pub joined-others : (x : ℕ) (ns gs : List Grant) → All (λ n. n .flow ≡ x) ns → All (λ g. g .flow ≡ x → ⊥) gs → others x (joined ns gs) ≡ gs
@@ -128,7 +130,7 @@ from-times f x (suc n) =
     rw e (ap (λ (ts : List ℕ). x ∷ ts) (from-times f (x + f .interval) n))
 
 -- grants of the flow that are not late are those from its first nominal time on
-pub times-from : (f : Flow) (x n : ℕ) (gs : List Grant) → All (λ g. (g .flow ≡ f .number) × (g .late ≡ 0)) gs → map (nominal 0) gs ≡ progression x (f .interval) n
+pub times-from : (f : Flow) (x n : ℕ) (gs : List Grant) → All (Prompt f) gs → map (nominal 0) gs ≡ progression x (f .interval) n
     → gs ≡ grantsFrom f x n
 unfolding grantsFrom progression
 times-from f x zero [] a e = refl

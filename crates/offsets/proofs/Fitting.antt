@@ -1,8 +1,8 @@
 -- What it is that the new flow fits, of the grants of the new table. Assumes nothing.
 use mathlib.Core.Path.{_≡_, refl, sym, ap, subst, _∙_}
-use mathlib.Core.Bool.{Bool, true, or-true}
+use mathlib.Core.Bool.{true, or-true}
 use mathlib.Core.Logic.{_↔_, inl, inr, ⊎-elim}
-use mathlib.Core.List.{List, [], _∷_, _++_, map}
+use mathlib.Core.List.{List, [], _∷_, _++_}
 use Prim.Native.Nat.{ℕ, zero, suc, _+_, _*_, _≤_, _<_}
 use native.Mathlib.Omega.{arith}
 use lib.Dec.{leb}
@@ -21,7 +21,7 @@ use Rattle.lists.proofs.Cycle.{kept, occupies-pos, divides-cycle, cycle-fits, g
 use Rattle.lists.proofs.OneMore.{cycle-same, grants-more, last-new}
 use Rattle.tables.specs.declared.packed.Grant.{Grant}
 use Rattle.tables.proofs.Meaning.{Fits, Holds}
-use Rattle.law.specs.Check.{known, look, slots, nominal, to}
+use Rattle.law.specs.Check.{known, look, slots, to}
 use Rattle.law.specs.Law.{Obeys, Law, Rising, Inside}
 use Rattle.law.proofs.Listed.{known-mem, mem-known, look-mem, slots-pos}
 use Rattle.law.proofs.OneMore.{look-more}
@@ -32,7 +32,7 @@ use Rattle.law.proofs.Reading.{Reads}
 use Rattle.law.proofs.CheckIsLaw.{reads-round}
 use Rattle.offsets.specs.Offsets.{grantsFrom, newGrants, apart, free, fits, joined, others}
 use Rattle.offsets.proofs.Joining.{all-joined, length-joined, from-after, from-before, length-from}
-use Rattle.offsets.proofs.Among.{others-each, from-own, joined-others, joined-other, joined-own, from-times, times-from}
+use Rattle.offsets.proofs.Among.{others-each, Prompt, from-prompt, joined-others, joined-other, joined-own, from-times, times-from}
 use Rattle.offsets.proofs.Apart.{Apart, Cleared, insert-chain, chain-cleared}
 
 -- a list whose last flow is new, with an interval from the frame to the cycle of the flows before it, and their passing grants
@@ -67,7 +67,7 @@ module _ (fs : List Flow) (f : Flow) (gs : List Grant) (N : New fs f gs) where
   unfolding newGrants
   old-grants o =
       let ns = grantsFrom f o (grantsOf (cycle fs) f) in
-      joined-others (f .number) ns gs (all-imp (λ n. (n .flow ≡ f .number) × (n .late ≡ 0)) (λ n. n .flow ≡ f .number) ns (λ n a. a .0) (from-own f o (grantsOf (cycle fs) f))) strangers
+      joined-others (f .number) ns gs (all-imp (Prompt f) (λ n. n .flow ≡ f .number) ns (λ n a. a .0) (from-prompt f o (grantsOf (cycle fs) f))) strangers
 
   -- the grants besides them are the new flow's
   pub new-grants : (o : ℕ) → to (f .number) (joined (newGrants (cycle fs) f o) gs) ≡ newGrants (cycle fs) f o
@@ -91,14 +91,14 @@ module _ (fs : List Flow) (f : Flow) (gs : List Grant) (N : New fs f gs) where
         few = omega (arith, long, many, grants-more fs f (N .low) (N .high), N .ok .grants-le);
         fits =
             all-joined Fits ns gs
-            (all-both (λ g. (g .flow ≡ f .number) × (g .late ≡ 0)) (λ g. g .start + f .interval ≤ o + n * f .interval) Fits ns
+            (all-both (Prompt f) (λ g. g .start + f .interval ≤ o + n * f .interval) Fits ns
             (λ g a b.
             record {
               flow-lt = omega (arith, a .0, rule .number-le);
               start-lt = omega (arith, b, fills, cycle-fits all (N .ok), same);
               late-lt = omega (arith, a .1);
             })
-            (from-own f o n) (from-before f o n))
+            (from-prompt f o n) (from-before f o n))
             (h .fits);
         cycle-lt = h .cycle-lt;
         frame-lt = h .frame-lt;
@@ -123,8 +123,8 @@ module _ (fs : List Flow) (f : Flow) (gs : List Grant) (N : New fs f gs) where
         (λ h. inl (rw p (leb-true _ _ h)))
         (λ h. inr (rw q (leb-true _ _ (rw h at e)))),
     ⊎-elim
-    (λ h. rw (le-leb (n .start + occupies f) (g .start) (rw p at h)))
-    (λ h. rw (le-leb (g .start + slots fs g) (n .start) (rw q at h)) (or-true (leb (n .start + occupies f) (g .start)))),
+        (λ h. rw (le-leb (n .start + occupies f) (g .start) (rw p at h)))
+        (λ h. rw (le-leb (g .start + slots fs g) (n .start) (rw q at h)) (or-true (leb (n .start + occupies f) (g .start)))),
   )
 
   -- a new grant is free exactly where it shares no slot with an old one and ends inside the cycle
@@ -150,7 +150,7 @@ module _ (fs : List Flow) (f : Flow) (gs : List Grant) (N : New fs f gs) where
   listed : (x n : ℕ) → All (λ g. known all (g .flow) ≡ true) (joined (grantsFrom f x n) gs)
   listed x n =
       all-joined (λ g. known all (g .flow) ≡ true) (grantsFrom f x n) gs
-      (all-imp (λ g. (g .flow ≡ f .number) × (g .late ≡ 0)) (λ g. known all (g .flow) ≡ true) (grantsFrom f x n) (λ g a. ap (known all) (a .0) ∙ mem-known all f (mem-behind fs f [])) (from-own f x n))
+      (all-imp (Prompt f) (λ g. known all (g .flow) ≡ true) (grantsFrom f x n) (λ g a. ap (known all) (a .0) ∙ mem-known all f (mem-behind fs f [])) (from-prompt f x n))
       (all-imp (λ g. known fs (g .flow) ≡ true) (λ g. known all (g .flow) ≡ true) gs (λ g k. look-more fs f (g .flow) k .0) (N .reads .listed))
 
   -- and takes a slot
@@ -181,7 +181,7 @@ module _ (fs : List Flow) (f : Flow) (gs : List Grant) (N : New fs f gs) where
         granted = rw (length-from f o n) (rw same at (granted all (N .ok) f (mem-behind fs f [])));
         fills = rw (length-from f o n) fills;
         punctual =
-            all-imp (λ g. (g .flow ≡ f .number) × (g .late ≡ 0)) (λ g. (g .late ≤ f .jitter) × (g .late ≤ 0 + g .start)) ns (λ g a. (omega arith, omega arith)) (from-own f o n);
+            all-imp (Prompt f) (λ g. (g .late ≤ f .jitter) × (g .late ≤ 0 + g .start)) ns (λ g a. (omega arith, omega arith)) (from-prompt f o n);
         times = from-times f o n ∙ ap (progression o (f .interval)) (sym (length-from f o n));
       }
 
@@ -189,7 +189,7 @@ module _ (fs : List Flow) (f : Flow) (gs : List Grant) (N : New fs f gs) where
     abbrev table : List Grant
     table = joined (newGrants (cycle fs) f o) gs
 
-    pub new-chain : Chain all 0 (cycle fs) table
+    new-chain : Chain all 0 (cycle fs) table
     unfolding fits newGrants
     new-chain = joined-chain o (grantsOf (cycle fs) f) fit
 
@@ -209,7 +209,7 @@ module _ (fs : List Flow) (f : Flow) (gs : List Grant) (N : New fs f gs) where
         (λ g d r.
         let own : to (g .number) table ≡ to (g .number) gs =
         joined-other (g .number) (grantsFrom f o n) gs
-        (all-imp (λ n. (n .flow ≡ f .number) × (n .late ≡ 0)) (λ n. n .flow ≡ g .number → ⊥) (grantsFrom f o n) (λ n a e. d (sym e ∙ a .0)) (from-own f o n)) in
+        (all-imp (Prompt f) (λ n. n .flow ≡ g .number → ⊥) (grantsFrom f o n) (λ n a e. d (sym e ∙ a .0)) (from-prompt f o n)) in
         rw (same, own) r)
         (last-new fs f (N .ok .distinct)) (N .law .obeyed)
 
@@ -232,24 +232,22 @@ module _ (fs : List Flow) (f : Flow) (gs : List Grant) (N : New fs f gs) where
   abbrev Placed : List Grant → Grant → Type 0
   Placed tab n = All (Cleared all n) tab × (n .start + slots all n ≤ cycle fs)
 
-  -- the old grants as they stood, and besides them the new flow's for the offset o
-  pub chain-fits : (tab : List Grant) → Chain all 0 (cycle fs) tab → others (f .number) tab ≡ gs → (o : ℕ) → to (f .number) tab ≡ newGrants (cycle fs) f o → fits fs gs f o ≡ true
+  -- a passing table with the old grants as they stood, and besides them the new flow's for the offset o
+  pub reads-fits : (tab : List Grant) → Reads all tab → others (f .number) tab ≡ gs → (o : ℕ) → to (f .number) tab ≡ newGrants (cycle fs) f o → fits fs gs f o ≡ true
   unfolding fits
-  chain-fits tab c old o new =
+  reads-fits tab r old o new =
+      let c : Chain all 0 (cycle fs) tab = rw same at (inside-chain all tab (r .clear) (r .inside)) in
       ap (every (free fs gs f)) (sym new)
       ∙ all-every (free fs gs f) (to (f .number) tab)
       (all-imp (λ n. Placed tab n × (n .flow ≡ f .number)) (λ n. free fs gs f n ≡ true) (to (f .number) tab)
       (λ n a.
-      free-is n (a .1) .1
-      (subst (All (Apart all n)) old
-      (all-imp (λ g. Cleared all n g × (g .flow ≡ f .number → ⊥)) (Apart all n) (others (f .number) tab) (λ g b. b .0 (λ e. b .1 (sym e ∙ a .1))) (others-each (Cleared all n) (f .number) tab (a .0 .0))),
-      a .0 .1))
+      free-is n (a .1) .1 (
+        subst (All (Apart all n)) old
+            (all-imp (λ g. Cleared all n g × (g .flow ≡ f .number → ⊥)) (Apart all n) (others (f .number) tab) (λ g b. b .0 (λ e. b .1 (sym e ∙ a .1))) (others-each (Cleared all n) (f .number) tab (a .0 .0))),
+        a .0 .1,
+      ))
       (to-all (Placed tab) (f .number) tab
       (all-both (λ n. All (Cleared all n) tab) (λ n. n .start + slots all n ≤ cycle fs) (Placed tab) tab (λ n a b. (a, b)) (chain-cleared all 0 (cycle fs) tab c) (chain-inside all 0 (cycle fs) tab c))))
-
-  -- a passing table's grants stand one after another
-  pub passing-chain : (tab : List Grant) → Reads all tab → Chain all 0 (cycle fs) tab
-  passing-chain tab r = rw same at (inside-chain all tab (r .clear) (r .inside))
 
   -- any passing table in which the old grants stand as they stood, with the new flow's not late
   pub standing : (tab : List Grant) → Reads all tab → others (f .number) tab ≡ gs → All (λ g. g .late ≡ 0) (to (f .number) tab)
@@ -261,10 +259,10 @@ module _ (fs : List Flow) (f : Flow) (gs : List Grant) (N : New fs f gs) where
       let count : length own ≡ grantsOf (cycle fs) f =
       rw same at (all-mem (λ g. length (to (g .number) tab) ≡ grantsOf (cycle all) g) all (r .counted) f (mem-behind fs f [])) in
       let whose =
-      all-both (λ g. Unit × (g .flow ≡ f .number)) (λ g. g .late ≡ 0) (λ g. (g .flow ≡ f .number) × (g .late ≡ 0)) own (λ g a b. (a .1, b))
+      all-both (λ g. Unit × (g .flow ≡ f .number)) (λ g. g .late ≡ 0) (Prompt f) own (λ g a b. (a .1, b))
       (to-all (λ g. Unit) (f .number) tab (all-each (λ g. Unit) tab (λ g. tt))) prompt in (
         y .0,
         y .1,
-        chain-fits tab (passing-chain tab r) old (y .0)
-        (times-from f (y .0) (grantsOf (cycle fs) f) own whose (y .2 .times ∙ ap (progression (y .0) (f .interval)) count)),
+        reads-fits tab r old (y .0)
+            (times-from f (y .0) (grantsOf (cycle fs) f) own whose (y .2 .times ∙ ap (progression (y .0) (f .interval)) count)),
       )

@@ -26,7 +26,7 @@ unfolding insert
 insert-behind n g gs h = rw (lt-ltb (g .start) (n .start) h)
 
 -- before the first that does not
-pub insert-before : (n : Grant) (gs : List Grant) → All (λ g. n .start ≤ g .start) gs → insert n gs ≡ n ∷ gs
+insert-before : (n : Grant) (gs : List Grant) → All (λ g. n .start ≤ g .start) gs → insert n gs ≡ n ∷ gs
 unfolding insert
 insert-before n [] a = refl
 insert-before n (g ∷ gs) a = rw (le-ltb (g .start) (n .start) (a .0))

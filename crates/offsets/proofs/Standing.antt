@@ -1,6 +1,6 @@
 -- Live add leaves the old grants as they stood, and finds an offset exactly where the new table is lawful. Assumes nothing.
-use mathlib.Core.Path.{_≡_, sym, ap, subst, _∙_}
-use mathlib.Core.Bool.{true, _&&_}
+use mathlib.Core.Path.{_≡_, ap, subst, _∙_}
+use mathlib.Core.Bool.{true}
 use mathlib.Core.Logic.{_↔_}
 use mathlib.Core.List.{List, [], _∷_, _++_}
 use Prim.Native.Nat.{ℕ, _≤_, _<_}
@@ -21,13 +21,10 @@ use Rattle.lists.proofs.Verdicts.{Few, few-passed, kept-exactly}
 use Rattle.lists.proofs.Accepted.{accepted}
 use Rattle.lists.proofs.OneMore.{cycle-same, frame-same}
 use Rattle.lists.proofs.RoundTrip.{flows-back, list-passes}
-use Rattle.tables.specs.declared.packed.Grant.{Grant}
-use Rattle.tables.specs.Tables.{grantsOf as grantsIn, tableOf}
+use Rattle.tables.specs.Tables.{grantsOf as grantsIn}
 use Rattle.tables.proofs.Meaning.{Holds, grants-table}
 use Rattle.law.specs.Check.{to, check}
-use Rattle.law.specs.Law.{Law}
 use Rattle.law.specs.Lawful.{Lawful}
-use Rattle.law.proofs.Chains.{Chain}
 use Rattle.law.proofs.Reading.{Reads, passes-reads}
 use Rattle.law.proofs.CheckIsLaw.{check-is-law}
 use Rattle.law.proofs.Demand.{check-parts, check-is-lawful}
@@ -35,7 +32,7 @@ use Rattle.law.proofs.Oversold.{passes-length}
 use Rattle.law.proofs.Packed.{held, packed-passes}
 use Rattle.offsets.specs.Offsets.{newGrants, fits, joined, others}
 use Rattle.offsets.specs.Adding.{withNew, test21, newTests, newList, newTableGrants, newTable}
-use Rattle.offsets.proofs.Fitting.{New, old-grants, new-grants, new-holds, new-rising, new-inside, new-law, chain-fits, passing-chain, standing}
+use Rattle.offsets.proofs.Fitting.{New, old-grants, new-grants, new-holds, new-rising, new-inside, new-law, reads-fits, standing}
 
 -- what tests 3 to 6, 21 and 7 leave of the new flow
 record Tested (fs : List Flow) (f : Flow) : Type 0 where
@@ -77,23 +74,23 @@ module _ (l t : List ℕ) (f : Flow) (passes : check l t ≡ Passed) (new : newT
   is : Tested old f
   is = tested old f new
 
-  -- the new list is read back, and passes tests 1 to 7
-  list-back : flowsOf (newList l f) ≡ all
+  -- the new list's flows are the old ones, and behind them the new one
+  pub list-back : flowsOf (newList l f) ≡ flowsOf l ++ (f ∷ [])
   unfolding newList withNew
   list-back = flows-back all (is .few .0) (is .few .1) (kept-exactly all .0 (is .kept))
 
+  -- they pass tests 1 to 7
   list-tested : tests1to7 (newList l f) ≡ Passed
   unfolding newList withNew tests1to7
   list-tested =
       passed-both (tests1to4 (listOf all)) _ (list-passes all (is .few .0) (is .few .1) (kept-exactly all .0 (is .kept)))
       (rw list-back (passed-both (test5 all) _ (is .numbered) (passed-both (test6 all) _ (is .related) (is .limited))))
 
+  -- so it is accepted
   ok : Accepted all
   ok = subst Accepted list-back (accepted (newList l f) list-tested)
 
-  accepted-old : Accepted old
-  accepted-old = accepted l (check-parts l t .0 passes .list)
-
+  -- the old grants and the new flow
   -- the new flow beside the old grants
   pub stands : New old f (grantsIn t)
   stands =
@@ -115,6 +112,14 @@ module _ (l t : List ℕ) (f : Flow) (passes : check l t ≡ Passed) (new : newT
   unfolding newTableGrants
   new-stand o = new-grants old f (grantsIn t) stands o
 
+  -- a packed table can hold them all
+  pub new-held : (o : ℕ) → o < f .interval → Holds (cycle (flowsOf l)) (frame (flowsOf l)) (newTableGrants l t f o)
+  unfolding newTableGrants
+  new-held =
+      let p = check-parts l t .0 passes in
+      let accepted-old = accepted l (p .list) in
+      new-holds old f (grantsIn t) stands (passes-length old (accepted-old .distinct) (grantsIn t) (p .rules)) (held old accepted-old (grantsIn t) (p .rules))
+
   -- a lawful table of the new list, as tests 14 to 18 read it
   lawful-reads : (u : List ℕ) → Lawful (newList l f) u → Reads all (grantsIn u)
   lawful-reads u w =
@@ -135,22 +140,14 @@ module _ (l t : List ℕ) (f : Flow) (passes : check l t ≡ Passed) (new : newT
         let pass = check-is-law all ok tab .1 (rises, obeys, inside) in
         rw (c, φ) at (packed-passes (newList l f) tab list-tested (pass .0) (rw list-back (pass .1)))
 
-    -- a packed table can hold the grants of the new table
-    pub new-held : o < f .interval → Holds (cycle (flowsOf l)) (frame (flowsOf l)) (newTableGrants l t f o)
-    unfolding newTableGrants
-    new-held early =
-        let rules = check-parts l t .0 passes .rules in
-        new-holds old f (grantsIn t) stands (passes-length old (accepted-old .distinct) (grantsIn t) rules) (held old accepted-old (grantsIn t) rules) o early
-
     -- and where the new table is lawful the flow fits
     lawful-fits : o < f .interval → Lawful (newList l f) (newTable l t f o) → fits (flowsOf l) (grantsIn t) f o ≡ true
     unfolding newTable newTableGrants
     lawful-fits early w =
         let tab = joined (newGrants (cycle old) f o) (grantsIn t) in
-        let back : grantsIn (newTable l t f o) ≡ tab = grants-table (cycle old) (frame old) tab (new-held early) in
+        let back : grantsIn (newTable l t f o) ≡ tab = grants-table (cycle old) (frame old) tab (new-held o early) in
         let r : Reads all tab = subst (Reads all) back (lawful-reads (newTable l t f o) w) in
-        chain-fits old f (grantsIn t) stands tab (passing-chain old f (grantsIn t) stands tab r)
-        (old-stand o) o (new-stand o)
+        reads-fits old f (grantsIn t) stands tab r (old-stand o) o (new-stand o)
 
     -- the new flow fits at an offset exactly where the new table is lawful for the new list
     pub fits-exactly : o < f .interval → (fits (flowsOf l) (grantsIn t) f o ≡ true) ↔ Lawful (newList l f) (newTable l t f o)

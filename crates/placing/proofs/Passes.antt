@@ -13,7 +13,7 @@ use Rattle.flows.specs.declared.flow.Flow.{Flow}
 use Rattle.refusals.specs.declared.Checked.the-variants.{Passed}
 use Rattle.lists.specs.Facts.{cycle, frame, grantsOf, grants}
 use Rattle.lists.specs.Accepted.{Accepted}
-use Rattle.lists.proofs.Cycle.{kept, cycle-le, interval-pos, cycle-in}
+use Rattle.lists.proofs.Cycle.{kept, cycle-le, interval-pos}
 use Rattle.tables.specs.declared.packed.Grant.{Grant}
 use Rattle.tables.specs.Form.{test12}
 use Rattle.law.specs.Check.{known, look, slots, nominal, to, last, tests14to18}

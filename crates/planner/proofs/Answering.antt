@@ -19,7 +19,7 @@ use Rattle.lists.specs.Lists.{flowsOf}
 use Rattle.lists.specs.declared.facts.Facts.{Facts}
 use Rattle.lists.specs.Facts.{cycle, frame, grants, load, factsOf}
 use Rattle.lists.specs.Accepted.{Accepted}
-use Rattle.lists.proofs.Cycle.{frame-pos}
+use Rattle.lists.proofs.Cycle.{frame-pos, cycle-fits}
 use Rattle.tables.specs.declared.packed.Grant.{Grant}
 use Rattle.tables.specs.Tables.{headFields, place, tableOf}
 use Rattle.placing.specs.Rule.{Outcome, done, refused, Settled, layout, rows, planned}

@@ -1,32 +1,24 @@
 -- What planning writes passes the check, for every list and room. Assumes nothing.
 use mathlib.Core.Path.{_≡_, refl, ap, _∙_}
-use mathlib.Core.Bool.{true}
-use mathlib.Core.List.{List, [], _∷_, List·Memᴰ·head}
-use Prim.Native.Nat.{ℕ, _*_, _/_, _≤_, _<_}
-use native.Mathlib.Omega.{arith}
+use mathlib.Core.List.{List, []}
+use Prim.Native.Nat.{ℕ, _≤_}
 use lib.Dec.{leb}
 use lib.ListN.{length}
-use borrow.Author.Tests.{eq-eqb, leb-true, le-ltb}
-use Rattle.logic.specs.Lists.{sum}
-use Rattle.logic.proofs.Tests.{by-lt, both-and}
-use Rattle.logic.proofs.Members.{all-imp}
+use borrow.Author.Tests.{leb-true, le-ltb}
 use Rattle.flows.specs.declared.flow.Flow.{Flow}
-use Rattle.refusals.specs.declared.Refusal.the-variants.{TableForm, OtherCycle, NoFrame, Room}
+use Rattle.refusals.specs.declared.Refusal.the-variants.{NoFrame, Room}
 use Rattle.refusals.specs.declared.Checked.the-variants.{Passed, Refused}
 use Rattle.refusals.specs.declared.Written.the-variants.{Bytes}
 use Rattle.refusals.specs.Answers.{answer}
-use Rattle.refusals.proofs.Chains.{refused-not, both-passed, passed-both, unless-yes, unless-passed}
+use Rattle.refusals.proofs.Chains.{refused-not, both-passed, unless-passed}
 use Rattle.lists.specs.Lists.{flowsOf}
-use Rattle.lists.specs.Facts.{cycle, frame, grantsOf as grantsEach, grants}
+use Rattle.lists.specs.Facts.{cycle, frame, grants}
 use Rattle.lists.specs.Tests.{tests1to7}
-use Rattle.lists.specs.Accepted.{Accepted}
 use Rattle.lists.proofs.Accepted.{accepted}
-use Rattle.lists.proofs.Cycle.{interval-pos, cycle-le, divides-cycle, least-upto}
 use Rattle.tables.specs.declared.packed.Grant.{Grant}
-use Rattle.tables.specs.Tables.{place, grantsOf, tableOf}
-use Rattle.tables.specs.Form.{test11, formTests}
-use Rattle.tables.proofs.Meaning.{Fits, Holds, length-table, cycle-table, frame-table, grants-table, formed-table}
-use Rattle.law.specs.Check.{known, test13, check}
+use Rattle.tables.specs.Tables.{place, tableOf}
+use Rattle.tables.proofs.Meaning.{length-table}
+use Rattle.law.specs.Check.{check}
 use Rattle.law.proofs.Packed.{packed-passes}
 use Rattle.placing.specs.Rule.{Outcome, done, refused, planned}
 use Rattle.placing.proofs.Passes.{planned-passes, planned-length}
