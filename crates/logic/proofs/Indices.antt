@@ -4,12 +4,17 @@ use mathlib.Core.List.{List, [], _∷_}
 use Prim.Native.Nat.{ℕ, zero, suc, _+_, _<_}
 use native.Mathlib.Numerals.{add-one}
 use native.Mathlib.Omega.{arith}
-use lib.ListN.{length, getD, drop}
-use lib.Seq.{drop-cons}
+use lib.ListN.{length, getD, set, drop}
+use lib.Seq.{drop-cons, getD-set-same, getD-set-other}
+use Rattle.logic.proofs.Tests.{by-eq}
 
 -- entry i and those after it
 pub opens : {A : Type 0} (xs : List A) (d x : A) (i : ℕ) → i < length xs → x ≡ getD xs i d → drop i xs ≡ x ∷ drop (i + 1) xs
 opens xs d x i h e = rw (add-one, e) (drop-cons xs i d h)
+
+-- one entry more is set to v
+pub filled-next : (xs : List ℕ) (k v : ℕ) → k < length xs → ((j : ℕ) → j < k → getD xs j 0 ≡ v) → (j : ℕ) → j < k + 1 → getD (set xs k v) j 0 ≡ v
+filled-next xs k v l a j h = by-eq j k (λ e. rw e (getD-set-same xs k v 0 l)) (λ n. rw (getD-set-other xs k j v 0 n) (a j (omega arith)))
 
 -- n entries from index i on, whichever way they are written down
 module _ {ℓ} {A : Type ℓ} (at : ℕ → A) (from : ℕ → ℕ → List A)

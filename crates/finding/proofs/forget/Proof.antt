@@ -4,9 +4,8 @@ use mathlib.Core.Path.{_≡_}
 use Prim.Native.Nat.{ℕ, _-_, _≤_, _<_}
 use native.Mathlib.Omega.{arith}
 use lib.ListN.{length, getD, length-set}
-use lib.Seq.{getD-set-same, getD-set-other}
 use borrow.Author.Needs.{needs}
-use Rattle.logic.proofs.Tests.{by-eq}
+use Rattle.logic.proofs.Indices.{filled-next}
 use Rattle.finding.proofs.forget.Statement.{statement}
 use Rattle.finding.proofs.forget.Tie as tie
 
@@ -31,13 +30,8 @@ loop-less c = search needs
 loop-again : tie.Need-loop-again Inv-loop μ-loop
 loop-again c =
     let v = c .before .loop in
-    let l = v .inv .1 in (
-      omega arith,
-      simp length-set (v .inv .1),
-      λ j h. by-eq j (v .k)
-          (λ e. rw e (getD-set-same (v .records) (v .k) 128 0 (omega arith)))
-          (λ n. rw (getD-set-other (v .records) (v .k) j 128 0 n) (v .inv .2 j (omega arith))),
-    )
+    let l = v .inv .1 in
+    (omega arith, simp length-set (v .inv .1), filled-next (v .records) (v .k) 128 (omega arith) (v .inv .2))
 
 same-length : tie.Need-same-length Inv-loop μ-loop
 same-length c = search needs

@@ -4,9 +4,9 @@ use mathlib.Core.Path.{_≡_}
 use Prim.Native.Nat.{ℕ, _-_, _≤_, _<_}
 use native.Mathlib.Omega.{arith}
 use lib.ListN.{length, getD, length-set, List·getD-eq-default}
-use lib.Seq.{getD-set-same, getD-set-other}
 use borrow.Author.Needs.{needs}
-use Rattle.logic.proofs.Tests.{by-lt, by-eq}
+use Rattle.logic.proofs.Tests.{by-lt}
+use Rattle.logic.proofs.Indices.{filled-next}
 use Rattle.checking.proofs.cells.clear.Statement.{statement}
 use Rattle.checking.proofs.cells.clear.Tie as tie
 
@@ -34,13 +34,8 @@ loop-less c = search needs
 loop-again : tie.Need-loop-again Inv-loop μ-loop
 loop-again c =
     let v = c .before .loop in
-    let l = v .inv .1 in (
-      omega arith,
-      simp length-set (v .inv .1),
-      λ j h. by-eq j (v .k)
-          (λ e. rw e (getD-set-same (v .cells) (v .k) 0 0 (omega arith)))
-          (λ n. rw (getD-set-other (v .cells) (v .k) j 0 0 n) (v .inv .2 j (omega arith))),
-    )
+    let l = v .inv .1 in
+    (omega arith, simp length-set (v .inv .1), filled-next (v .cells) (v .k) 0 (omega arith) (v .inv .2))
 
 same-length : tie.Need-same-length Inv-loop μ-loop
 same-length c = search needs
