@@ -477,7 +477,7 @@ impl Random {
     /// A list and a table for it: planned where the list can be, and then damaged half the time.
     pub fn list_and_table(&mut self) -> (Vec<u8>, Vec<u8>) {
         let flows = self.flows();
-        let table = planned(&flows).unwrap_or_else(|| self.any_table(&flows));
+        let table = samples::planned(&samples::list(&flows)).unwrap_or_else(|| self.any_table(&flows));
         self.damaged(flows, table)
     }
 
@@ -644,7 +644,8 @@ impl Random {
                 1 => self.flows_near_1024_grants(),
                 _ => self.flows(),
             };
-            let table = if self.one_in(4) { self.scattered(&mut flows) } else { planned(&flows) };
+            let table =
+                if self.one_in(4) { self.scattered(&mut flows) } else { samples::planned(&samples::list(&flows)) };
             if let Some(mut table) = table {
                 if self.one_in(2) {
                     self.leave_gaps(&mut flows, &mut table);
@@ -787,14 +788,6 @@ impl Random {
             _ => flow[field] = self.pick(&[u64::MAX, 1 << 32, u64::from(u32::MAX), 65_536]),
         }
     }
-}
-
-/// The planned table of these flows, if their list can be planned.
-fn planned(flows: &[Fields]) -> Option<Vec<u8>> {
-    let mut table = vec![0; base::LONGEST_TABLE];
-    let length = base::plan(&samples::list(flows), &mut table).ok()?;
-    table.truncate(length);
-    Some(table)
 }
 
 /// The shortest interval of these flows.

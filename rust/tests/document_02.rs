@@ -28,9 +28,8 @@ fn case_d() -> Pair {
 
 /// The flows 1, 2, ... and the table that is planned for them.
 fn planned(flows: &[Flow]) -> Pair {
-    let (list, mut table) = (samples::list(&samples::numbered(flows)), vec![0; base::LONGEST_TABLE]);
-    let length = base::plan(&list, &mut table).expect("the list can be planned");
-    table.truncate(length);
+    let list = samples::list(&samples::numbered(flows));
+    let table = samples::planned(&list).expect("the list can be planned");
     Pair { list, table }
 }
 
@@ -290,4 +289,25 @@ fn no_offset_where_the_channel_is_full_or_oversold() {
     let apart = pair(&[(1, 4, 0), (1, 4, 0)], 4, 4, &[[0, 1, 0], [2, 2, 0]]);
     assert_eq!(apart.add([3, 2, 4, 3]), Err((22, 0)));
     assert_eq!(apart.add([3, 1, 4, 3]), Ok(1));
+}
+
+#[test]
+fn the_samples_that_are_measured() {
+    assert_eq!(planned(&samples::CASE_C).table, case_c().table);
+    assert_eq!(planned(&samples::CASE_C).add([3, 2, 8, 0]), Ok(6));
+    let nearly_full = planned(&samples::nearly_full());
+    assert_eq!(nearly_full.list.len(), 4 + 6 * 127);
+    assert_eq!(nearly_full.table.len(), 8 + 5 * 532);
+    assert_eq!(base::load(&nearly_full.list), Ok(4096 - 28));
+    assert_eq!(nearly_full.add([128, 6, 4096, 0]), Ok(3994));
+    assert_eq!(nearly_full.add([128, 7, 4096, 0]), Err((22, 0)));
+    let full = planned(&samples::full_to_the_last_frame());
+    assert_eq!(full.table.len(), 8 + 5 * 1023);
+    assert_eq!(full.add([12, 1, 4096, 0]), Ok(4092));
+    assert_eq!(full.add([12, 4, 4096, 0]), Ok(4092));
+    assert_eq!(full.add([12, 5, 4096, 0]), Err((22, 0)));
+    let last_slots_free = planned(&samples::last_slots_free());
+    assert_eq!(last_slots_free.table.len(), 8 + 5 * 612);
+    assert_eq!(last_slots_free.add([103, 1, 16, 0]), Ok(15));
+    assert_eq!(last_slots_free.add([103, 2, 16, 0]), Err((22, 0)));
 }
