@@ -145,11 +145,22 @@ fn write_table(table: &Table, flow: &Flow, offset: u32, cycle: &Cycle, room: &mu
     let (mut room, _) = records.as_chunks_mut();
     let mut old = table.records;
     for start in (offset..cycle.slots).step_by(flow.interval as usize) {
-        let (before, after) = old.split_at(old.partition_point(|record| Grant::unpacked(record).start < start));
+        let (before, after) = old.split_at(grants_before(start, old));
         let (records, rest) = room.split_at_mut(before.len() + 1);
         records[..before.len()].copy_from_slice(before);
         records[before.len()] = Grant { number: flow.number, start, late: 0, spare: 0 }.packed();
         (old, room) = (after, rest);
     }
     room.copy_from_slice(old);
+}
+
+/// How many of the records start before a time: the fewer they are, the fewer are looked at.
+#[inline(always)]
+fn grants_before(time: u32, records: &[[u8; TABLE_RECORD]]) -> usize {
+    let before = |record: &[u8; TABLE_RECORD]| Grant::unpacked(record).start < time;
+    let mut reach = 1;
+    while records.get(reach).is_some_and(before) {
+        reach *= 2;
+    }
+    records[..reach.min(records.len())].partition_point(before)
 }
