@@ -716,47 +716,22 @@ impl Random {
         }
     }
 
-    /// A flow to add to a pair that passes: most keep all rules, some of a size that only just fits or just does not.
+    /// A flow to add to a pair that passes: most keep all rules.
     fn new_flow(&mut self, flows: &[Fields], table: &[u8]) -> [u64; 4] {
-        let (frame, cycle) = (frame(flows), cycle(flows));
-        let interval = match self.below(16) {
-            0 => frame,
-            1..5 => cycle,
-            // Related to both, and to the others perhaps.
-            5 => self.divisor(cycle / frame) * frame,
-            // Below the frame, over the cycle.
-            6 => self.divisor(frame),
-            7 => cycle * self.between(1, 4096 / cycle),
-            // Unrelated most of the time.
-            8 => self.pick(flows)[INTERVAL] + 1,
-            _ => self.pick(flows)[INTERVAL],
-        };
         let mut number = self.between(1, 1023);
         while flows.iter().any(|flow| flow[NUMBER] == number) {
             number = number % 1023 + 1;
         }
-        let list = samples::list(flows);
-        let mut rooms = ([0; base::LONGEST_LIST], [0; base::LONGEST_TABLE]);
-        let mut fits = |size: u32| {
-            let flow = [number, size, interval, 0].map(u64::from);
-            base::live_add(&list, table, flow, &mut rooms.0, &mut rooms.1).is_ok()
-        };
+        let interval = self.new_interval(flows);
         let most = interval.min(4095);
         let size = match self.below(8) {
-            0 | 1 => {
-                // The greatest size that fits, or one more.
-                let (mut size, mut past) = (0, most + 1);
-                while past - size > 1 {
-                    let middle = (size + past) / 2;
-                    *(if fits(middle) { &mut size } else { &mut past }) = middle;
-                }
-                (size + self.between(0, 1)).clamp(1, most)
-            }
-            2 => self.between(1, most),
+            0 => self.between(1, most),
+            // What only just fits, or just does not.
+            1 | 2 => (greatest_size(number, interval, flows, table) + self.between(0, 1)).clamp(1, most),
             _ => self.between(1, most.min(3)),
         };
         let tightness = self.below(5);
-        let jitter = self.jitter(tightness, interval, interval == frame);
+        let jitter = self.jitter(tightness, interval, interval == frame(flows));
         let mut flow = [number, size, interval, jitter].map(u64::from);
         if self.one_in(20) {
             flow[NUMBER] = self.pick(flows)[NUMBER].into();
@@ -765,6 +740,20 @@ impl Random {
             self.damage_new_flow(&mut flow);
         }
         flow
+    }
+
+    /// An interval for a new flow: one of the list's, one between them, below the frame, over the cycle, or unrelated.
+    fn new_interval(&mut self, flows: &[Fields]) -> u32 {
+        let (frame, cycle) = (frame(flows), cycle(flows));
+        match self.below(16) {
+            0 => frame,
+            1..5 => cycle,
+            5 => self.divisor(cycle / frame) * frame,
+            6 => self.divisor(frame),
+            7 => cycle * self.between(1, 4096 / cycle),
+            8 => self.pick(flows)[INTERVAL] + 1,
+            _ => self.pick(flows)[INTERVAL],
+        }
     }
 
     /// A divisor of a number, of any size.
@@ -788,6 +777,22 @@ impl Random {
             _ => flow[field] = self.pick(&[u64::MAX, 1 << 32, u64::from(u32::MAX), 65_536]),
         }
     }
+}
+
+/// The greatest size at which a new flow of this number and interval fits into a pair, 0 if it fits at none.
+fn greatest_size(number: u32, interval: u32, flows: &[Fields], table: &[u8]) -> u32 {
+    let list = samples::list(flows);
+    let mut rooms = ([0; base::LONGEST_LIST], [0; base::LONGEST_TABLE]);
+    let (mut fits, mut past) = (0, interval.min(4095) + 1);
+    while past - fits > 1 {
+        let size = (fits + past) / 2;
+        let flow = [number, size, interval, 0].map(u64::from);
+        match base::live_add(&list, table, flow, &mut rooms.0, &mut rooms.1) {
+            Ok(_) => fits = size,
+            Err(_) => past = size,
+        }
+    }
+    fits
 }
 
 /// The shortest interval of these flows.

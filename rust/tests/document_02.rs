@@ -9,6 +9,9 @@ struct Pair {
     table: Vec<u8>,
 }
 
+/// The offset, or the refusal's number and place.
+type Answer = Result<usize, (u32, u64)>;
+
 /// The flows 1, 2, ... and the grants of their table, each as start, flow and late.
 fn pair(flows: &[Flow], cycle: u32, frame: u32, grants: &[[u32; 3]]) -> Pair {
     let pair = Pair { list: samples::list(&samples::numbered(flows)), table: samples::table(cycle, frame, grants) };
@@ -35,7 +38,7 @@ fn planned(flows: &[Flow]) -> Pair {
 
 impl Pair {
     /// The answer with rooms of these lengths, and the rooms afterwards.
-    fn add_in(&self, flow: [u64; 4], rooms: [usize; 2]) -> (Result<usize, (u32, u64)>, [Vec<u8>; 2]) {
+    fn add_in(&self, flow: [u64; 4], rooms: [usize; 2]) -> (Answer, [Vec<u8>; 2]) {
         let [mut list_room, mut table_room] = rooms.map(|length| vec![0xA5; length]);
         let answer = base::live_add(&self.list, &self.table, flow, &mut list_room, &mut table_room);
         let answer = answer.map_err(|Refusal { number, place }| (number, place));
@@ -47,7 +50,7 @@ impl Pair {
 
     /// The offset, in rooms that are longer than needed. The new pair is what it has to be: the new flow last in the
     /// list, the old grants as they were, the new ones at the offset and every interval from there on, none late.
-    fn add(&self, flow: [u64; 4]) -> Result<usize, (u32, u64)> {
+    fn add(&self, flow: [u64; 4]) -> Answer {
         let (answer, [list_room, table_room]) = self.add_in(flow, [1000, 6000]);
         let offset = answer?;
         let [number, _, interval, _] = flow.map(|field| field as u32);

@@ -204,11 +204,10 @@ fn compare_live_add(list: &[u8], table: &[u8], flow: [u64; 4], rooms: [usize; 2]
     let (mut list_bytes, mut table_bytes) = (0, 0);
     if let Ok((_, (new_flows, new_grants))) = expected {
         (list_bytes, table_bytes) = (4 + 6 * new_flows.len(), 8 + 5 * new_grants.len());
-        let (list, new_list) = (list, &list_room[..list_bytes]);
+        let (new_list, new_table) = (&list_room[..list_bytes], &table_room[..table_bytes]);
         assert_eq!(new_list[..4], [0x11, 0, 0, new_flows.len() as u8]);
         assert_eq!(flows(new_list), new_flows);
         assert_eq!(flows(list), new_flows[..new_flows.len() - 1]);
-        let new_table = &table_room[..table_bytes];
         assert_eq!(new_table[..2], [0x12, 0]);
         assert_eq!(fields(&new_table[2..4], &[16]), [new_grants.len()]);
         assert_eq!(new_table[4..8], table[4..8]);
@@ -293,7 +292,9 @@ fn random_inputs() {
                     assert_eq!(back[..sheet.len()], sheet);
                 }
             }
-            Case::LiveAdd { list, table, flow, rooms } => drop(compare_live_add(&list, &table, flow, rooms)),
+            Case::LiveAdd { list, table, flow, rooms } => {
+                compare_live_add(&list, &table, flow, rooms);
+            }
         }
     }
     assert!(

@@ -1,7 +1,7 @@
 //! Live add, request L1 of document 02: one flow more in a table that stays as it is.
 //!
-//! The grants of a flow stand at the same slot of every interval. So the old grants are noted in one interval, those of
-//! all others laid over it, and the new flow fits where enough slots in a row are free.
+//! The new grants, none late, stand at the same place of every interval. So the intervals of the cycle are laid over one
+//! another: a slot that is granted in any of them is taken, and the flow fits where enough slots in a row are not.
 
 use super::*;
 
