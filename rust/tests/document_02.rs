@@ -105,6 +105,10 @@ fn every_grant_of_the_new_flow_fits() {
     assert_eq!(pair.add([3, 2, 4, 0]), Ok(2));
     assert_eq!(pair.add([3, 3, 4, 0]), Err((22, 0)));
     assert_eq!(pair.add([3, 3, 8, 0]), Ok(1));
+    // Slots 1, 3, 4 and 5 are granted: a grant runs from one interval into the next.
+    let across = self::pair(&[(1, 4, 0), (2, 8, 0)], 8, 4, &[[1, 1, 0], [3, 2, 0], [5, 1, 0]]);
+    assert_eq!(across.add([3, 1, 4, 0]), Ok(2));
+    assert_eq!(across.add([3, 1, 8, 0]), Ok(0));
 }
 
 #[test]
