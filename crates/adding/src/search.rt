@@ -40,7 +40,8 @@ fn clash(list: &[u8], records: &[u8], table: &[u8], f: Flow, x: u64) -> u64
     requires { ⌜ Joins (now list) (now table) f × Indexed (flowsOf (now list)) 0 (now records) × (x ≤ 4096) ⌝ }
     ensures { λ r. ⌜ Clears (now (list .entry)) (now (table .entry)) f x r ⌝ }
 {
-    let i = grants_before(table, x + occupies(f) as u64);
+    let behind = x + occupies(f) as u64;
+    let i = grants_before(table, behind);
     if i == 0 {
         return 0;
     }

@@ -22,11 +22,11 @@ use Rattle.adding.proofs.search.clash.Tie as tie
 occupies-requires : tie.Need-occupies-requires
 occupies-requires c κs = search needs
 
-cast-grants-before : tie.Need-cast-grants-before
-cast-grants-before c = search needs
+cast-behind : tie.Need-cast-behind
+cast-behind c = search needs
 
-add-grants-before : tie.Need-add-grants-before
-add-grants-before c = search needs
+add-behind : tie.Need-add-behind
+add-behind c = search needs
 
 grants-before-requires : tie.Need-grants-before-requires
 grants-before-requires c κs = search needs
@@ -100,8 +100,8 @@ clash-spec =
     tie.close
     (tie.spec
     occupies-requires
-    cast-grants-before
-    add-grants-before
+    cast-behind
+    add-behind
     grants-before-requires
     returns
     sub-grant-at
