@@ -30,20 +30,13 @@ use Rattle.hub.specs.Statements.{LiveAdd}
 use Rattle.hub.specs.NewPair.{Stands, NewPair}
 use Rattle.hub.proofs.Demand1.{add-stops, add-writes}
 
--- the grants of the new table, read from its bytes
-table-back : (l t : List ℕ) (f : Flow) (n m o : ℕ) → addAnswer l t f n m ≡ Offset o → grantsOf (newTable l t f o) ≡ newTableGrants l t f o
-unfolding newTable
-table-back l t f n m o e =
-    let p = each-passed l t f n m (answered l t f n m o e .0) in
-    grants-table (cycle (flowsOf l)) (frame (flowsOf l)) (newTableGrants l t f o) (new-held l t f (p .0) (p .1) o (offset-smallest l t f n m o e .0))
-
 -- the new list and the new table, as live add's definitions have them
 made-pair : (l t : List ℕ) (f : Flow) (n m o : ℕ) → addAnswer l t f n m ≡ Offset o → NewPair l t f o (newList l f) (newTable l t f o)
-unfolding newGrants
+unfolding newGrants newTable
 made-pair l t f n m o e =
     let p = each-passed l t f n m (answered l t f n m o e .0) in
-    let back = table-back l t f n m o e in
     let least = offset-smallest l t f n m o e in
+    let back : grantsOf (newTable l t f o) ≡ newTableGrants l t f o = grants-table _ _ _ (new-held l t f (p .0) (p .1) o (least .0)) in
     let own : to (f .number) (grantsOf (newTable l t f o)) ≡ newGrants (cycle (flowsOf l)) f o = rw back (new-stand l t f (p .0) (p .1) o) in
     record {
       new-last = list-back l t f (p .0) (p .1);
