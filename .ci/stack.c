@@ -13,8 +13,9 @@ static void (*call)(void);
 
 static uint8_t sheet[SNOWPLOUGHY_SHEET_BYTES], list[SNOWPLOUGHY_LIST_BYTES], table[SNOWPLOUGHY_TABLE_BYTES];
 static uint64_t sheet_len, list_len, table_len, first, value;
-static uint8_t room[1 << 15];
-static size_t room_len;
+static uint8_t room[1 << 15], list_room[SNOWPLOUGHY_LIST_BYTES], table_room[SNOWPLOUGHY_TABLE_BYTES];
+static size_t room_len, list_room_len, table_room_len;
+static uint64_t new_number, new_interval;
 
 static void nothing(void) {}
 static void pack(void) { snowploughy_list_from_sheet(sheet, sheet_len, room, room_len, &value); }
@@ -22,6 +23,9 @@ static void print(void) { snowploughy_sheet_from_list(list, list_len, room, room
 static void plan(void) { snowploughy_plan(list, list_len, room, room_len, &value); }
 static void check(void) { snowploughy_check(list, list_len, table, table_len, &value); }
 static void window(void) { snowploughy_window(table, table_len, 0, 4096, &first, &value); }
+static void add(void) {
+    snowploughy_live_add(list, list_len, table, table_len, new_number, 1, new_interval, 0, list_room, list_room_len, table_room, table_room_len, &value);
+}
 static void run(void) { call(); }
 
 static size_t depth(void (*f)(void)) {
@@ -52,19 +56,35 @@ static void make(unsigned n, unsigned few, unsigned size, unsigned frame, unsign
     if (snowploughy_plan(list, list_len, table, sizeof table, &table_len)) table_len = 0;
 }
 
+/* A flow to add to the list, and the rooms for it: just long enough, or none where the other calls have none. */
+static void join(unsigned number, unsigned interval, unsigned cycle) {
+    new_number = number;
+    new_interval = interval;
+    list_room_len = room_len ? list_len + 6 : 0;
+    table_room_len = room_len && interval ? table_len + 5 * (cycle / interval) : 0;
+    if (list_room_len > sizeof list_room) list_room_len = sizeof list_room;
+    if (table_room_len > sizeof table_room) table_room_len = sizeof table_room;
+}
+
 int main(void) {
     struct { const char *name; void (*f)(void); size_t most; } calls[] = {
-        {"list_from_sheet", pack, 0}, {"sheet_from_list", print, 0}, {"plan", plan, 0}, {"check", check, 0}, {"window", window, 0}};
-    unsigned lists[][6] = {{3, 1, 2, 4, 8, 2}, {128, 2, 30, 16, 4096, 15}, {8, 4, 1, 16, 4080, 0}, {128, 0, 1, 4, 4096, 0}, {2, 1, 9, 4, 8, 0}, {0, 0, 0, 0, 0, 0}};
+        {"list_from_sheet", pack, 0}, {"sheet_from_list", print, 0}, {"plan", plan, 0}, {"check", check, 0}, {"window", window, 0}, {"live_add", add, 0}};
+    size_t count = sizeof calls / sizeof *calls;
+    /* the second half for live add: case C, 127 flows over 256 frames, 1,023 grants, and a table with no free slot */
+    unsigned lists[][6] = {{3, 1, 2, 4, 8, 2}, {128, 2, 28, 16, 4096, 15}, {8, 4, 1, 16, 4080, 0}, {128, 0, 1, 4, 4096, 0}, {2, 1, 9, 4, 8, 0}, {0, 0, 0, 0, 0, 0},
+                           {2, 1, 4, 4, 8, 1}, {127, 2, 28, 16, 4096, 15}, {7, 4, 1, 16, 4080, 0}, {4, 4, 1, 4, 4, 0}};
     size_t base = depth(nothing);
     for (size_t l = 0; l < sizeof lists / sizeof *lists; l++) {
         make(lists[l][0], lists[l][1], lists[l][2], lists[l][3], lists[l][4], lists[l][5]);
         for (room_len = 0; room_len <= sizeof room; room_len += sizeof room)
-            for (size_t c = 0; c < 5; c++) {
-                size_t d = depth(calls[c].f) - base;
-                if (d > calls[c].most) calls[c].most = d;
+            for (unsigned often = 0; often < 2; often++) {
+                join(lists[l][0] + 1, often ? lists[l][3] : lists[l][4], lists[l][4]);
+                for (size_t c = 0; c < count; c++) {
+                    size_t d = depth(calls[c].f) - base;
+                    if (d > calls[c].most) calls[c].most = d;
+                }
             }
     }
-    for (size_t c = 0; c < 5; c++) printf("stack of snowploughy_%s: %zu bytes\n", calls[c].name, calls[c].most);
+    for (size_t c = 0; c < count; c++) printf("stack of snowploughy_%s: %zu bytes\n", calls[c].name, calls[c].most);
     return 0;
 }

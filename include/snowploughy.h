@@ -43,12 +43,14 @@ enum snowploughy_refusal {
     SNOWPLOUGHY_OVERLAP = 17,      /* overlaps the record before: table record */
     SNOWPLOUGHY_PAST_CYCLE = 18,   /* ends after the cycle: table record */
     SNOWPLOUGHY_WINDOW_ENDS = 19,  /* window ends not 0 <= a <= b <= cycle */
-    SNOWPLOUGHY_LINE = 20          /* a sheet line not of its form: line */
+    SNOWPLOUGHY_LINE = 20,         /* a sheet line not of its form: line */
+    SNOWPLOUGHY_OUTSIDE_SPAN = 21, /* interval below the frame or over the cycle */
+    SNOWPLOUGHY_NO_OFFSET = 22     /* no offset at which the new flow fits */
 };
 
 /* Each answers 0 when its work is done, and otherwise the refusal's number.
  * *value: done, how many bytes stand at the room's front (0 where nothing is written); refused, the place.
- * A refusal leaves every byte of every room as it was. Rooms must not overlap what is read. */
+ * A refusal leaves every byte of every room as it was. Rooms must not overlap what is read, nor one another. */
 uint32_t snowploughy_list_from_sheet(const uint8_t *sheet, size_t sheet_len, uint8_t *room, size_t room_len, uint64_t *value);
 uint32_t snowploughy_sheet_from_list(const uint8_t *list, size_t list_len, uint8_t *room, size_t room_len, uint64_t *value);
 uint32_t snowploughy_plan(const uint8_t *list, size_t list_len, uint8_t *room, size_t room_len, uint64_t *value);
@@ -57,6 +59,12 @@ uint32_t snowploughy_check(const uint8_t *list, size_t list_len, const uint8_t *
 /* The grants that start in the window a .. b, as a stretch of the table: *first is where it starts, in bytes from the table's
  * front, and *bytes how long it is. A refusal gives an empty stretch at the front. */
 uint32_t snowploughy_window(const uint8_t *table, size_t table_len, uint64_t a, uint64_t b, uint64_t *first, uint64_t *bytes);
+
+/* Adds one call to a running table. Done, *value is the offset found; the new list is 6 bytes longer than the old one,
+ * and the new table 5 bytes longer for each of the new flow's grants. Refused, *value is the place. */
+uint32_t snowploughy_live_add(const uint8_t *list, size_t list_len, const uint8_t *table, size_t table_len,
+                              uint64_t number, uint64_t size, uint64_t interval, uint64_t jitter,
+                              uint8_t *list_room, size_t list_room_len, uint8_t *table_room, size_t table_room_len, uint64_t *value);
 
 #ifdef __cplusplus
 }

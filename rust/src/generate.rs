@@ -5,11 +5,34 @@ use crate::{base, samples};
 /// One call of an operation. A room is its length; it holds `ROOM_BYTE` everywhere.
 #[derive(Clone, Debug)]
 pub enum Case {
-    ListFromSheet { sheet: Vec<u8>, room: usize },
-    SheetFromList { list: Vec<u8>, room: usize },
-    Plan { list: Vec<u8>, room: usize },
-    Check { list: Vec<u8>, table: Vec<u8> },
-    Window { table: Vec<u8>, a: u64, b: u64 },
+    ListFromSheet {
+        sheet: Vec<u8>,
+        room: usize,
+    },
+    SheetFromList {
+        list: Vec<u8>,
+        room: usize,
+    },
+    Plan {
+        list: Vec<u8>,
+        room: usize,
+    },
+    Check {
+        list: Vec<u8>,
+        table: Vec<u8>,
+    },
+    Window {
+        table: Vec<u8>,
+        a: u64,
+        b: u64,
+    },
+    /// The flow as number, size, interval and jitter; the rooms of the list and of the table.
+    LiveAdd {
+        list: Vec<u8>,
+        table: Vec<u8>,
+        flow: [u64; 4],
+        rooms: [usize; 2],
+    },
 }
 
 /// The byte that a room holds everywhere before its call.
@@ -24,21 +47,27 @@ impl Case {
             Case::Plan { .. } => "plan",
             Case::Check { .. } => "check",
             Case::Window { .. } => "window",
+            Case::LiveAdd { .. } => "add",
         }
     }
 
-    /// The case as the stream of outside cases has it. None if a window's end is over four bytes.
+    /// The case as the stream of outside cases has it. None if a number is over four bytes.
     pub fn bytes(&self) -> Option<Vec<u8>> {
         let number = |value: u64| u32::try_from(value).ok().map(|value| value.to_be_bytes().to_vec());
         let string = |bytes: &[u8]| Some([number(bytes.len() as u64)?, bytes.to_vec()].concat());
-        let parts = match self {
-            Case::ListFromSheet { sheet, room } => [vec![1], string(sheet)?, number(*room as u64)?, vec![]],
-            Case::SheetFromList { list, room } => [vec![2], string(list)?, number(*room as u64)?, vec![]],
-            Case::Plan { list, room } => [vec![3], string(list)?, number(*room as u64)?, vec![]],
-            Case::Check { list, table } => [vec![4], string(list)?, string(table)?, vec![]],
-            Case::Window { table, a, b } => [vec![5], string(table)?, number(*a)?, number(*b)?],
+        let numbers = |values: &[u64]| values.iter().map(|&value| number(value)).collect::<Option<Vec<_>>>();
+        let (operation, strings, numbers) = match self {
+            Case::ListFromSheet { sheet, room } => (1, string(sheet)?, numbers(&[*room as u64])?),
+            Case::SheetFromList { list, room } => (2, string(list)?, numbers(&[*room as u64])?),
+            Case::Plan { list, room } => (3, string(list)?, numbers(&[*room as u64])?),
+            Case::Check { list, table } => (4, [string(list)?, string(table)?].concat(), vec![]),
+            Case::Window { table, a, b } => (5, string(table)?, numbers(&[*a, *b])?),
+            Case::LiveAdd { list, table, flow, rooms } => {
+                let rooms = rooms.map(|room| room as u64);
+                (6, [string(list)?, string(table)?].concat(), numbers(&[&flow[..], &rooms[..]].concat())?)
+            }
         };
-        Some(parts.concat())
+        Some([vec![operation], strings, numbers.concat()].concat())
     }
 }
 
@@ -85,7 +114,7 @@ impl Random {
 
     /// A random case of any operation.
     pub fn case(&mut self) -> Case {
-        match self.below(6) {
+        match self.below(8) {
             0 => {
                 let sheet = self.sheet();
                 let room = self.room(base::LONGEST_LIST, |room| base::list_from_sheet(&sheet, room));
@@ -105,17 +134,22 @@ impl Random {
                 let (list, table) = self.list_and_table();
                 Case::Check { list, table }
             }
-            _ => {
+            5 => {
                 let (_, table) = self.list_and_table();
                 let (a, b) = self.window(&table);
                 Case::Window { table, a, b }
             }
+            _ => self.live_add(),
         }
     }
 
-    /// The length of a room for an operation: exact, one short, longer, empty, the longest or any.
+    /// The length of a room for an operation.
     fn room(&mut self, longest: usize, operation: impl Fn(&mut [u8]) -> Result<usize, base::Refusal>) -> usize {
-        let exact = operation(&mut vec![0; longest]).unwrap_or(64);
+        self.room_about(operation(&mut vec![0; longest]).unwrap_or(64), longest)
+    }
+
+    /// The length of a room: exact, one short, longer, empty, the longest or any.
+    fn room_about(&mut self, exact: usize, longest: usize) -> usize {
         match self.below(12) {
             0 => exact - 1,
             1 => exact + 1 + self.below(64),
@@ -168,9 +202,12 @@ impl Random {
         flows
     }
 
-    /// Flows of size 1 with 1,023 to 1,026 grants together, if 128 flows will do.
+    /// Flows of size 1 with 1,023 to 1,026 grants together, over so many frames that 128 flows will mostly do.
     fn flows_near_1024_grants(&mut self) -> Vec<Fields> {
-        let intervals = self.intervals();
+        let mut intervals = self.intervals();
+        while intervals[intervals.len() - 1] / intervals[0] < 16 {
+            intervals = self.intervals();
+        }
         let cycle = intervals[intervals.len() - 1];
         let mut grants = self.between(1023, 1026);
         let tightness = self.below(8);
@@ -439,12 +476,13 @@ impl Random {
 
     /// A list and a table for it: planned where the list can be, and then damaged half the time.
     pub fn list_and_table(&mut self) -> (Vec<u8>, Vec<u8>) {
-        let mut flows = self.flows();
-        let mut table = vec![0; base::LONGEST_TABLE];
-        match base::plan(&samples::list(&flows), &mut table) {
-            Ok(length) => table.truncate(length),
-            Err(_) => table = self.any_table(&flows),
-        }
+        let flows = self.flows();
+        let table = samples::planned(&samples::list(&flows)).unwrap_or_else(|| self.any_table(&flows));
+        self.damaged(flows, table)
+    }
+
+    /// The flows as a list, and the table, both damaged now and then.
+    fn damaged(&mut self, mut flows: Vec<Fields>, mut table: Vec<u8>) -> (Vec<u8>, Vec<u8>) {
         if self.one_in(3) {
             self.damage_records(&mut table, &flows);
         }
@@ -470,8 +508,7 @@ impl Random {
     /// A table that has the grants of each flow at a nominal time of any choice, each late by any choice, one after
     /// another: legal now and then.
     fn any_table(&mut self, flows: &[Fields]) -> Vec<u8> {
-        let frame = flows.iter().map(|flow| flow[INTERVAL]).min().unwrap_or(1);
-        let cycle = flows.iter().map(|flow| flow[INTERVAL]).max().unwrap_or(1);
+        let (frame, cycle) = (frame(flows), cycle(flows));
         let mut grants = Vec::new();
         for &[number, _, interval, jitter] in flows {
             let first = self.between(0, interval - 1);
@@ -523,8 +560,7 @@ impl Random {
             10 => record.fill(0),
             _ => record[self.below(5)] = self.next() as u8,
         }
-        let count = ((table.len() - 8) / 5) as u16;
-        table[2..4].copy_from_slice(&count.to_be_bytes());
+        set_count(table);
     }
 
     /// Changes start or late of every grant of a flow alike, or of every grant from a record on: the steps stay right.
@@ -534,8 +570,7 @@ impl Random {
         let [start, late] = self.pick(&[[change, 0], [0, change], [change, change]]);
         let all_from = if self.one_in(2) { Some(self.below(table.len() / 5)) } else { None };
         for (index, record) in table[8..].chunks_exact_mut(5).enumerate() {
-            let same = u32::from(record[0]) << 2 | u32::from(record[1]) >> 6 == number;
-            if all_from.map_or(same, |first| index >= first) {
+            if all_from.map_or(number_of(record) == number, |first| index >= first) {
                 add(record, start, late);
             }
         }
@@ -581,6 +616,204 @@ impl Random {
         }
         ends.into()
     }
+
+    // -----------------------------------------------------------------------------------------------------------------
+    // Live add
+    // -----------------------------------------------------------------------------------------------------------------
+
+    /// A new flow for a list and a table, seven times in eight for a pair that passes, and two in three in rooms that
+    /// are just long enough.
+    pub fn live_add(&mut self) -> Case {
+        let (flows, table) = self.passing_pair();
+        let flow = self.new_flow(&flows, &table);
+        let grants = u64::from(cycle(&flows)).checked_div(flow[INTERVAL]).unwrap_or(1) as usize;
+        let (list, table) = if self.one_in(8) { self.damaged(flows, table) } else { (samples::list(&flows), table) };
+        let mut rooms = [list.len() + 6, table.len() + 5 * grants];
+        if self.one_in(3) {
+            let either = self.below(2);
+            rooms[either] = self.room_about(rooms[either], [base::LONGEST_LIST, base::LONGEST_TABLE][either]);
+        }
+        Case::LiveAdd { list, table, flow, rooms }
+    }
+
+    /// Flows and a table that passes for them: planned or scattered, and half the time with gaps that flows have left.
+    fn passing_pair(&mut self) -> (Vec<Fields>, Vec<u8>) {
+        loop {
+            let mut flows = match self.below(12) {
+                0 => self.flows_about_128(),
+                1 => self.flows_near_1024_grants(),
+                _ => self.flows(),
+            };
+            let table =
+                if self.one_in(4) { self.scattered(&mut flows) } else { samples::planned(&samples::list(&flows)) };
+            if let Some(mut table) = table {
+                if self.one_in(2) {
+                    self.leave_gaps(&mut flows, &mut table);
+                }
+                return (flows, table);
+            }
+        }
+    }
+
+    /// 126 to 128 flows, of which one alone has the shortest interval.
+    fn flows_about_128(&mut self) -> Vec<Fields> {
+        let frame = self.pick(&[8, 16, 24, 32]);
+        let cycle = frame * self.pick(&[32, 64, 128]);
+        let count = self.pick(&[126, 127, 127, 128, 128]);
+        let most = (cycle - cycle / frame) / count;
+        let mut flows = vec![[1, 1, frame, frame - 1]];
+        for number in 2..=count {
+            flows.push([number, self.between(1, most), cycle, self.between(0, cycle - 1)]);
+        }
+        self.arrange(&mut flows);
+        flows
+    }
+
+    /// A table with the flows anywhere and their grants late by any choice. Flows that find no room are left out; none
+    /// if the table then has another cycle or frame.
+    fn scattered(&mut self, flows: &mut Vec<Fields>) -> Option<Vec<u8>> {
+        let (cycle, frame) = (cycle(flows), frame(flows));
+        let mut free = vec![true; cycle as usize];
+        let mut grants = Vec::new();
+        flows.retain(|&[number, size, interval, jitter]| {
+            let most_late = self.pick(&[0, 0, jitter.min(2), jitter]);
+            (0..8).any(|_| {
+                let first = self.between(0, interval - 1);
+                let nominal = (first..cycle).step_by(interval as usize);
+                let new: Vec<_> = nominal.map(|nominal| (nominal, self.between(0, most_late))).collect();
+                let slots = |&(nominal, late): &(u32, u32)| (nominal + late) as usize..(nominal + late + size) as usize;
+                // No grant reaches into the next of the same flow.
+                let apart = new.windows(2).all(|two| slots(&two[0]).end <= slots(&two[1]).start);
+                let fits =
+                    apart && new.iter().all(|grant| free.get(slots(grant)).is_some_and(|part| !part.contains(&false)));
+                if fits {
+                    for grant in &new {
+                        free[slots(grant)].fill(false);
+                        grants.push([grant.0 + grant.1, number, grant.1]);
+                    }
+                }
+                fits
+            })
+        });
+        grants.sort();
+        let table = samples::table(cycle, frame, &grants);
+        let list = samples::list(flows);
+        (base::check(&list, &table) == Ok(())).then_some(table)
+    }
+
+    /// Takes flows out of the list and the table, as long as others have the shortest and the longest interval.
+    fn leave_gaps(&mut self, flows: &mut Vec<Fields>, table: &mut Vec<u8>) {
+        let span = (frame(flows), cycle(flows));
+        for _ in 0..self.pick(&[1, 1, 2, 4, 40]) {
+            let mut fewer = flows.clone();
+            let [number, ..] = fewer.remove(self.below(flows.len()));
+            if !fewer.is_empty() && (frame(&fewer), cycle(&fewer)) == span {
+                *flows = fewer;
+                let records: Vec<_> = table[8..].chunks_exact(5).filter(|record| number_of(record) != number).collect();
+                *table = [&table[..8], &records.concat()].concat();
+                set_count(table);
+            }
+        }
+    }
+
+    /// A flow to add to a pair that passes: most keep all rules.
+    fn new_flow(&mut self, flows: &[Fields], table: &[u8]) -> [u64; 4] {
+        let mut number = self.between(1, 1023);
+        while flows.iter().any(|flow| flow[NUMBER] == number) {
+            number = number % 1023 + 1;
+        }
+        let interval = self.new_interval(flows);
+        let most = interval.min(4095);
+        let size = match self.below(8) {
+            0 => self.between(1, most),
+            // What only just fits, or just does not.
+            1 | 2 => (greatest_size(number, interval, flows, table) + self.between(0, 1)).clamp(1, most),
+            _ => self.between(1, most.min(3)),
+        };
+        let tightness = self.below(5);
+        let jitter = self.jitter(tightness, interval, interval == frame(flows));
+        let mut flow = [number, size, interval, jitter].map(u64::from);
+        if self.one_in(20) {
+            flow[NUMBER] = self.pick(flows)[NUMBER].into();
+        }
+        if self.one_in(10) {
+            self.damage_new_flow(&mut flow);
+        }
+        flow
+    }
+
+    /// An interval for a new flow: one of the list's, one between them, below the frame, over the cycle, or unrelated.
+    fn new_interval(&mut self, flows: &[Fields]) -> u32 {
+        let (frame, cycle) = (frame(flows), cycle(flows));
+        match self.below(16) {
+            0 => frame,
+            1..5 => cycle,
+            5 => self.divisor(cycle / frame) * frame,
+            6 => self.divisor(frame),
+            7 => cycle * self.between(1, 4096 / cycle),
+            8 => self.pick(flows)[INTERVAL] + 1,
+            _ => self.pick(flows)[INTERVAL],
+        }
+    }
+
+    /// A divisor of a number, of any size.
+    fn divisor(&mut self, number: u32) -> u32 {
+        let divisors: Vec<u32> = (1..=number).filter(|&divisor| number.is_multiple_of(divisor)).collect();
+        self.pick(&divisors)
+    }
+
+    /// Brings a field of a new flow to a limit or past it, or past the width of a field or of a machine's word.
+    fn damage_new_flow(&mut self, flow: &mut [u64; 4]) {
+        let interval = flow[INTERVAL];
+        let field = self.below(4);
+        match self.below(8) {
+            0 => flow[NUMBER] = self.pick(&[0, 1, 1023, 1024, 1025]),
+            1 => flow[SIZE] = self.pick(&[0, interval, interval + 1, 4095, 4096]),
+            2 => flow[INTERVAL] = self.pick(&[0, 1, 4095, 4096, 4097, 8192]),
+            3 => flow[JITTER] = self.pick(&[interval - 1, interval, 4095, 4096, 8191]),
+            4 => flow[field] += 1 << self.pick(&[10, 12, 13, 16]),
+            5 => flow[field] += 1 << self.pick(&[31, 32, 33, 63]),
+            6 => flow[field] = self.next() >> self.below(64),
+            _ => flow[field] = self.pick(&[u64::MAX, 1 << 32, u64::from(u32::MAX), 65_536]),
+        }
+    }
+}
+
+/// The greatest size at which a new flow of this number and interval fits into a pair, 0 if it fits at none.
+fn greatest_size(number: u32, interval: u32, flows: &[Fields], table: &[u8]) -> u32 {
+    let list = samples::list(flows);
+    let mut rooms = ([0; base::LONGEST_LIST], [0; base::LONGEST_TABLE]);
+    let (mut fits, mut past) = (0, interval.min(4095) + 1);
+    while past - fits > 1 {
+        let size = (fits + past) / 2;
+        let flow = [number, size, interval, 0].map(u64::from);
+        match base::live_add(&list, table, flow, &mut rooms.0, &mut rooms.1) {
+            Ok(_) => fits = size,
+            Err(_) => past = size,
+        }
+    }
+    fits
+}
+
+/// The shortest interval of these flows.
+fn frame(flows: &[Fields]) -> u32 {
+    flows.iter().map(|flow| flow[INTERVAL]).min().unwrap_or(1)
+}
+
+/// The longest interval of these flows.
+fn cycle(flows: &[Fields]) -> u32 {
+    flows.iter().map(|flow| flow[INTERVAL]).max().unwrap_or(1)
+}
+
+/// The flow number of a table record.
+fn number_of(record: &[u8]) -> u32 {
+    u32::from(record[0]) << 2 | u32::from(record[1]) >> 6
+}
+
+/// Sets the count of a table to that of its records.
+fn set_count(table: &mut [u8]) {
+    let count = ((table.len() - 8) / 5) as u16;
+    table[2..4].copy_from_slice(&count.to_be_bytes());
 }
 
 /// Adds to the start and the late of a table record, each within its width.

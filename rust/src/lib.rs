@@ -1,4 +1,4 @@
-//! Document 01 written a second time, from that document alone, and what compares the library with it.
+//! Documents 01 and 02 written a second time, from them alone, and what compares the library with it.
 
 pub mod base;
 pub mod generate;

@@ -24,6 +24,21 @@ extern "C" {
     fn snowploughy_plan(list: *const u8, list_len: usize, room: *mut u8, room_len: usize, value: *mut u64) -> u32;
     fn snowploughy_check(list: *const u8, list_len: usize, table: *const u8, table_len: usize, value: *mut u64) -> u32;
     fn snowploughy_window(table: *const u8, table_len: usize, a: u64, b: u64, first: *mut u64, bytes: *mut u64) -> u32;
+    fn snowploughy_live_add(
+        list: *const u8,
+        list_len: usize,
+        table: *const u8,
+        table_len: usize,
+        number: u64,
+        size: u64,
+        interval: u64,
+        jitter: u64,
+        list_room: *mut u8,
+        list_room_len: usize,
+        table_room: *mut u8,
+        table_room_len: usize,
+        value: *mut u64,
+    ) -> u32;
 }
 
 pub fn list_from_sheet(sheet: &[u8], room: &mut [u8]) -> Result<usize, Refusal> {
@@ -59,6 +74,36 @@ pub fn window(table: &[u8], a: u64, b: u64) -> Result<Range<usize>, Refusal> {
         assert_eq!((first, bytes), (0, 0), "a refused window is not empty at the front");
         Err(Refusal { number, place: 0 })
     }
+}
+
+pub fn live_add(
+    list: &[u8],
+    table: &[u8],
+    [number, size, interval, jitter]: [u64; 4],
+    list_room: &mut [u8],
+    table_room: &mut [u8],
+) -> Result<usize, Refusal> {
+    let mut value = UNSET;
+    // SAFETY: all four pointers come with the length of their slice; no mutable slice overlaps another slice; `value`
+    // outlives the call.
+    let refused = unsafe {
+        snowploughy_live_add(
+            list.as_ptr(),
+            list.len(),
+            table.as_ptr(),
+            table.len(),
+            number,
+            size,
+            interval,
+            jitter,
+            list_room.as_mut_ptr(),
+            list_room.len(),
+            table_room.as_mut_ptr(),
+            table_room.len(),
+            &mut value,
+        )
+    };
+    answer(refused, value).map(|offset| offset as usize)
 }
 
 /// What a value holds before its call, so that one left unset shows.

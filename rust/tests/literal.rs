@@ -1,8 +1,9 @@
-//! The placing rule, the check and the window once more, word by word and with no regard for speed, against the base
-//! on random inputs.
+//! The placing rule, the check, the window and live add once more, word by word and with no regard for speed, against
+//! the base on random inputs.
 
 use harness::base;
 use harness::generate::{Case, Random};
+use std::collections::BTreeMap;
 
 /// Number, size, interval and jitter.
 type Flow = [usize; 4];
@@ -138,6 +139,106 @@ fn grants(table: &[u8]) -> Vec<[usize; 3]> {
     records.map(|record| [record[1], record[0], record[2]]).collect()
 }
 
+/// A new pair: its flows, and its grants as start, flow number and late.
+type NewPair = (Vec<Flow>, Vec<[usize; 3]>);
+
+/// The offset of a new flow and the new pair, for an old pair that passes and rooms of these lengths.
+fn add(list: &[u8], table: &[u8], flow: [u64; 4], rooms: [usize; 2]) -> Result<(usize, NewPair), (u32, u64)> {
+    let (mut flows, mut grants) = (flows(list), grants(table));
+    let (frame, cycle) = (flows.iter().map(|flow| flow[2]).min(), flows.iter().map(|flow| flow[2]).max());
+    let (frame, cycle) = (frame.expect("a flow"), cycle.expect("a flow"));
+    let place = flows.len() as u64 + 1;
+    if place > 128 {
+        return Err((3, 0));
+    }
+    let [number, size, interval, jitter] = flow;
+    let right = (1..=1023).contains(&number)
+        && (1..=4095).contains(&size)
+        && (1..=4096).contains(&interval)
+        && size <= interval
+        && jitter < interval;
+    if !right {
+        return Err((4, place));
+    }
+    let new @ [number, size, interval, _] = flow.map(|field| field as usize);
+    if flows.iter().any(|flow| flow[0] == number) {
+        return Err((5, place));
+    }
+    if flows.iter().any(|flow| flow[2].max(interval) % flow[2].min(interval) != 0) {
+        return Err((6, place));
+    }
+    if interval < frame || interval > cycle {
+        return Err((21, 0));
+    }
+    let mut slots = vec![false; cycle];
+    for &[start, number, _] in &grants {
+        let flow = flows.iter().find(|flow| flow[0] == number).expect("the pair passes");
+        slots[start..start + flow[1]].fill(true);
+    }
+    flows.push(new);
+    if cycle / frame > 256 || flows.iter().map(|flow| cycle / flow[2]).sum::<usize>() > 1024 {
+        return Err((7, 0));
+    }
+    let starts = |offset: usize| (0..cycle / interval).map(move |grant| offset + grant * interval);
+    if rooms[0] < 4 + 6 * flows.len() || rooms[1] < 8 + 5 * (grants.len() + starts(0).count()) {
+        return Err((9, 0));
+    }
+    let fits =
+        |offset: &usize| starts(*offset).all(|start| (start..start + size).all(|slot| slots.get(slot) == Some(&false)));
+    let offset = (0..interval).find(fits).ok_or((22, 0))?;
+    grants.extend(starts(offset).map(|start| [start, number, 0]));
+    grants.sort();
+    Ok((offset, (flows, grants)))
+}
+
+/// Compares one live add with the base; answers the refusal's number, 0 if there is none.
+fn compare_live_add(list: &[u8], table: &[u8], flow: [u64; 4], rooms: [usize; 2]) -> u32 {
+    let [mut list_room, mut table_room] = rooms.map(|length| vec![0xA5; length]);
+    let answer = base::live_add(list, table, flow, &mut list_room, &mut table_room);
+    let answer = answer.map_err(|refusal| (refusal.number, refusal.place));
+    let expected = match base::check(list, table) {
+        Ok(()) => add(list, table, flow, rooms),
+        Err(refusal) => Err((refusal.number, refusal.place)),
+    };
+    assert_eq!(answer, expected.clone().map(|(offset, _)| offset));
+    let (mut list_bytes, mut table_bytes) = (0, 0);
+    if let Ok((_, (new_flows, new_grants))) = expected {
+        (list_bytes, table_bytes) = (4 + 6 * new_flows.len(), 8 + 5 * new_grants.len());
+        let (new_list, new_table) = (&list_room[..list_bytes], &table_room[..table_bytes]);
+        assert_eq!(new_list[..4], [0x11, 0, 0, new_flows.len() as u8]);
+        assert_eq!(flows(new_list), new_flows);
+        assert_eq!(flows(list), new_flows[..new_flows.len() - 1]);
+        assert_eq!(new_table[..2], [0x12, 0]);
+        assert_eq!(fields(&new_table[2..4], &[16]), [new_grants.len()]);
+        assert_eq!(new_table[4..8], table[4..8]);
+        assert_eq!(grants(new_table), new_grants);
+        assert!(new_table[8..].chunks(5).all(|record| record[4] & 0x3F == 0));
+        // Nobody has moved, and the new pair is lawful.
+        let others: Vec<_> = new_grants.iter().copied().filter(|grant| grant[1] as u64 != flow[0]).collect();
+        assert_eq!(others, grants(table));
+        assert_eq!(law(&new_flows, fields(&table[4..6], &[16])[0], &new_grants), (0, 0));
+        assert_eq!(base::check(new_list, new_table), Ok(()));
+    }
+    assert!(list_room[list_bytes..].iter().chain(&table_room[table_bytes..]).all(|&byte| byte == 0xA5));
+    answer.err().map_or(0, |(number, _)| number)
+}
+
+#[test]
+fn random_live_adds() {
+    let mut random = Random::new(3);
+    let mut counts = BTreeMap::new();
+    for _ in 0..20_000 {
+        let Case::LiveAdd { list, table, flow, rooms } = random.live_add() else {
+            unreachable!("a live add");
+        };
+        *counts.entry(compare_live_add(&list, &table, flow, rooms)).or_insert(0) += 1;
+    }
+    println!("live adds by refusal {counts:?}");
+    let often = [0, 3, 4, 5, 6, 7, 9, 21, 22];
+    assert!(often.iter().all(|number| counts.get(number) > Some(&100)), "{counts:?}");
+    assert!([1, 2].into_iter().chain(11..=18).all(|number| counts.contains_key(&number)), "{counts:?}");
+}
+
 #[test]
 fn random_inputs() {
     let mut random = Random::new(7);
@@ -190,6 +291,9 @@ fn random_inputs() {
                     assert_eq!(base::sheet_from_list(&list[..length], &mut back), Ok(sheet.len()));
                     assert_eq!(back[..sheet.len()], sheet);
                 }
+            }
+            Case::LiveAdd { list, table, flow, rooms } => {
+                compare_live_add(&list, &table, flow, rooms);
             }
         }
     }

@@ -70,7 +70,7 @@ chain-rising fs a b (r ∷ []) s c = tt
 chain-rising fs a b (r ∷ q ∷ rs) s c = (omega arith, chain-rising fs (r .start + slots fs r) b (q ∷ rs) (s .1) (c .1))
 
 -- a grant's place in the chain
-chain-at : (fs : List Flow) (a b : ℕ) (rs : List Grant) (k : ℕ) → Chain fs a b rs → k < length rs → (a ≤ nth rs k .start) × (nth rs k .start + slots fs (nth rs k) ≤ b)
+pub chain-at : (fs : List Flow) (a b : ℕ) (rs : List Grant) (k : ℕ) → Chain fs a b rs → k < length rs → (a ≤ nth rs k .start) × (nth rs k .start + slots fs (nth rs k) ≤ b)
 chain-at fs a b [] k c h = absurd (omega arith)
 chain-at fs a b (r ∷ rs) zero c h = (c .0, chain-le fs (r .start + slots fs r) b rs (c .1))
 chain-at fs a b (r ∷ rs) (suc k) c h = let u = chain-at fs (r .start + slots fs r) b rs k (c .1) (omega arith) in omega arith

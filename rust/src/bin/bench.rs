@@ -24,9 +24,7 @@ fn main() {
     ] {
         let flows = samples::numbered(&flows);
         let (list, sheet) = (samples::list(&flows), samples::sheet(&flows));
-        let mut table = vec![0; base::LONGEST_TABLE];
-        let length = base::plan(&list, &mut table).expect("the list can be planned");
-        table.truncate(length);
+        let table = samples::planned(&list).expect("the list can be planned");
         let cycle = u64::from(u16::from_be_bytes([table[4], table[5]]));
 
         writing(&format!("plan: {name}"), &list, base::LONGEST_TABLE, base::plan, library::plan);
@@ -44,6 +42,35 @@ fn main() {
     }
     let longest = samples::longest_sheet();
     sheets("128 lines, four digits everywhere", &samples::list(&longest), &samples::sheet(&longest));
+
+    adding("case C, 3 grants, 1 more", &samples::CASE_C, (2, 8, 0));
+    // The only place for so many slots is found late; the new list is the longest there is.
+    adding("127 flows, 28 slots free, 1 more", &samples::nearly_full(), (6, 4096, 0));
+    // The most offsets: the new grant is the table's last, and the new table is the longest there is.
+    adding("1,023 grants, full to the last 4 slots", &samples::full_to_the_last_frame(), (4, 4096, 0));
+    // The most grants for an offset, and to be put between others.
+    adding("612 grants, 256 more between them", &samples::last_slots_free(), (1, 16, 0));
+}
+
+/// Adds a flow to the planned table of others.
+fn adding(name: &str, flows: &[samples::Flow], (size, interval, jitter): samples::Flow) {
+    let list = samples::list(&samples::numbered(flows));
+    let table = samples::planned(&list).expect("the list can be planned");
+    let flow = [flows.len() as u32 + 1, size, interval, jitter].map(u64::from);
+    let mut our_rooms = (vec![0; base::LONGEST_LIST], vec![0; base::LONGEST_TABLE]);
+    let mut their_rooms = our_rooms.clone();
+    compare(
+        &format!("live add: {name}"),
+        || {
+            let (list_room, table_room) = black_box(&mut our_rooms);
+            base::live_add(black_box(&list), black_box(&table), black_box(flow), list_room, table_room)
+        },
+        || {
+            let (list_room, table_room) = black_box(&mut their_rooms);
+            library::live_add(black_box(&list), black_box(&table), black_box(flow), list_room, table_room)
+        },
+    );
+    assert!(our_rooms == their_rooms, "{name}: the rooms differ");
 }
 
 /// A sheet and its list, both ways.

@@ -24,7 +24,7 @@ fn main() -> io::Result<()> {
 }
 
 /// The answer to the case in front of the stream, which moves behind it. None if the stream stops inside the case, or
-/// if the operation is not one of document 01's.
+/// if the operation is not one of the base's.
 fn answer(stream: &mut &[u8]) -> Option<String> {
     let (operation, rest) = stream.split_first()?;
     *stream = rest;
@@ -44,8 +44,26 @@ fn answer(stream: &mut &[u8]) -> Option<String> {
             let stretch = answer.unwrap_or(0..0);
             Some(format!("window {number} {place} {} {}", stretch.start, stretch.len()))
         }
+        6 => live_add(stream),
         _ => None,
     }
+}
+
+fn live_add(stream: &mut &[u8]) -> Option<String> {
+    let (list, table) = (string(stream)?, string(stream)?);
+    let flow = [number(stream)?, number(stream)?, number(stream)?, number(stream)?].map(u64::from);
+    let (mut list_room, mut table_room) = (room(stream)?, room(stream)?);
+    let answer = base::live_add(list, table, flow, &mut list_room, &mut table_room);
+    let (number, place) = refusal(answer.err());
+    // What stands at the front of each room when it is done.
+    let written = answer.and_then(|_| {
+        let grants = base::Table::read(table)?.cycle as usize / flow[2] as usize;
+        Ok((list.len() + 6, table.len() + 5 * grants))
+    });
+    let (list_bytes, table_bytes) = written.unwrap_or((0, 0));
+    let (list_sum, table_sum) = (adler_32(&list_room), adler_32(&table_room));
+    let offset = answer.unwrap_or(0);
+    Some(format!("add {number} {place} {offset} {list_bytes} {list_sum} {table_bytes} {table_sum}"))
 }
 
 /// Runs an operation that reads one byte string and writes one room.
@@ -55,7 +73,7 @@ fn written(
     operation: fn(&[u8], &mut [u8]) -> Result<usize, Refusal>,
 ) -> Option<String> {
     let input = string(stream)?;
-    let mut room = vec![ROOM_BYTE; number(stream)? as usize];
+    let mut room = room(stream)?;
     let answer = operation(input, &mut room);
     let (number, place) = refusal(answer.err());
     Some(format!("{name} {number} {place} {} {}", answer.unwrap_or(0), adler_32(&room)))
@@ -70,6 +88,11 @@ fn number(stream: &mut &[u8]) -> Option<u32> {
     let (bytes, rest) = stream.split_first_chunk()?;
     *stream = rest;
     Some(u32::from_be_bytes(*bytes))
+}
+
+/// The room whose length is in front of the stream.
+fn room(stream: &mut &[u8]) -> Option<Vec<u8>> {
+    Some(vec![ROOM_BYTE; number(stream)? as usize])
 }
 
 /// The byte string in front of the stream.

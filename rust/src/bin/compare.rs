@@ -9,12 +9,15 @@ use std::collections::BTreeMap;
 use std::env;
 use std::process::exit;
 
-/// What an operation hands back, and its room afterwards (empty where it has none).
+/// What an operation hands back, and its rooms afterwards.
 #[derive(Debug, PartialEq)]
 struct Outcome {
     answer: Result<(usize, usize), Refusal>,
-    room: Vec<u8>,
+    rooms: Vec<Vec<u8>>,
 }
+
+/// Live add, ours or theirs.
+type LiveAdd = fn(&[u8], &[u8], [u64; 4], &mut [u8], &mut [u8]) -> Result<usize, Refusal>;
 
 fn main() {
     let mut arguments = env::args().skip(1).map(|argument| argument.parse().expect("cases and seed are numbers"));
@@ -53,6 +56,7 @@ fn from_base(case: &Case) -> Outcome {
             // The C function has no place to give.
             outcome(answer.map_err(|refusal| Refusal { place: 0, ..refusal }))
         }
+        Case::LiveAdd { list, table, flow, rooms } => added(base::live_add, list, table, *flow, *rooms),
     }
 }
 
@@ -65,17 +69,24 @@ fn from_library(case: &Case) -> Outcome {
         Case::Window { table, a, b } => {
             outcome(library::window(table, *a, *b).map(|stretch| (stretch.start, stretch.end)))
         }
+        Case::LiveAdd { list, table, flow, rooms } => added(library::live_add, list, table, *flow, *rooms),
     }
 }
 
 fn written(operation: fn(&[u8], &mut [u8]) -> Result<usize, Refusal>, input: &[u8], room: usize) -> Outcome {
     let mut room = vec![ROOM_BYTE; room];
     let answer = operation(input, &mut room).map(|length| (0, length));
-    Outcome { answer, room }
+    Outcome { answer, rooms: vec![room] }
+}
+
+fn added(operation: LiveAdd, list: &[u8], table: &[u8], flow: [u64; 4], rooms: [usize; 2]) -> Outcome {
+    let [mut list_room, mut table_room] = rooms.map(|length| vec![ROOM_BYTE; length]);
+    let answer = operation(list, table, flow, &mut list_room, &mut table_room).map(|offset| (offset, 0));
+    Outcome { answer, rooms: vec![list_room, table_room] }
 }
 
 fn outcome(answer: Result<(usize, usize), Refusal>) -> Outcome {
-    Outcome { answer, room: Vec::new() }
+    Outcome { answer, rooms: Vec::new() }
 }
 
 /// Prints the case and both outcomes, every byte string in hex.
@@ -91,15 +102,20 @@ fn describe(case: &Case, ours: &Outcome, theirs: &Outcome) {
         }
         Case::Check { list, table } => println!("list {}\ntable {}", hex(list), hex(table)),
         Case::Window { table, a, b } => println!("table {}\na {a} b {b}", hex(table)),
+        Case::LiveAdd { list, table, flow: [number, size, interval, jitter], rooms } => {
+            println!("list {}\ntable {}", hex(list), hex(table));
+            println!("new flow {number} size {size} every {interval} jitter {jitter}");
+            println!("rooms {} and {} bytes", rooms[0], rooms[1]);
+        }
     }
     if let Some(bytes) = case.bytes() {
         println!("as an outside case {}", hex(&bytes));
     }
     println!("base    {:?}\nlibrary {:?}", ours.answer, theirs.answer);
-    if ours.room != theirs.room {
-        let first = ours.room.iter().zip(&theirs.room).position(|(ours, theirs)| ours != theirs);
+    for (ours, theirs) in ours.rooms.iter().zip(&theirs.rooms).filter(|(ours, theirs)| ours != theirs) {
+        let first = ours.iter().zip(theirs).position(|(ours, theirs)| ours != theirs);
         println!("rooms differ first at byte {first:?}");
-        println!("base    room {}\nlibrary room {}", hex(&ours.room), hex(&theirs.room));
+        println!("base    room {}\nlibrary room {}", hex(ours), hex(theirs));
     }
 }
 

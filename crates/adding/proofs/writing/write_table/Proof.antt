@@ -1,0 +1,88 @@
+-- `adding::writing::write_table` meets its contract.
+-- Assumes nothing.
+use mathlib.Core.Path.{_≡_, refl, ap, ap₂, _∙_}
+use Prim.Native.Nat.{ℕ, _+_, _/_}
+use native.Mathlib.Omega.{arith}
+use Rattle.fields.specs.declared.kind.Kind.the-variants.{TableHead}
+use Rattle.fields.specs.Records.{roomAfter}
+use Rattle.tables.specs.Tables.{count, cycleOf, headFields}
+use Rattle.adding.proofs.Tabling.{grants-many, held-after, table-added}
+use borrow.Author.Needs.{needs}
+use Rattle.adding.proofs.writing.write_table.Statement.{statement}
+use Rattle.adding.proofs.writing.write_table.Tie as tie
+
+cycle-requires : tie.Need-cycle-requires
+cycle-requires c κs = search needs
+
+count-requires : tie.Need-count-requires
+count-requires c κs = search needs
+
+times-requires : tie.Need-times-requires
+times-requires c κs = search needs
+
+cast-total : tie.Need-cast-total
+cast-total c = search needs
+
+add-total : tie.Need-add-total
+add-total c = search needs
+
+-- how many records there will be
+total : (c : tie.After-times) → let a = c .before .before .before .before .before .args in
+    c .before .count .result + c .times .result ≡ count (a .table .now) + cycleOf (a .table .now) / a .f .interval
+total c =
+    let a = c .before .before .before .before .before .args in
+    ap₂ _+_ (c .before .count .ensures) (c .times .ensures ∙ ap (λ (x : ℕ). x / a .f .interval) (c .before .before .cycle .ensures))
+
+cast-write-head : tie.Need-cast-write-head
+cast-write-head c =
+    let s = c .before .before .before .before .before in
+    let p = s .pre .0 in
+    omega (arith, total c, grants-many (p .0) (s .args .table .now) (s .args .f) (s .args .offset) (p .1), held-after (p .0) (s .args .table .now) (s .args .f) (s .args .offset) (p .1) (s .pre .1) .few)
+
+frame-requires : tie.Need-frame-requires
+frame-requires c κs = search needs
+
+write-head-requires : tie.Need-write-head-requires
+write-head-requires c κs = search needs
+
+write-grants-requires : tie.Need-write-grants-requires
+write-grants-requires c κs =
+    let t = c .before .before .before .before .before .before in
+    let s = t .before .before .before .before .before in
+    (s .pre .0, s .pre .1, total t)
+
+same-length : tie.Need-same-length
+same-length c = search needs
+
+returns : tie.Need-returns
+returns c =
+    let g = c .before .before in
+    let h = g .before .before .before .before in
+    let f = h .before .before in
+    let t = f .before in
+    let k = t .before .before in
+    let s = k .before .before .before in
+    let a = s .args in
+    let p = s .pre .0 in
+    let n = count (a .table .now) + cycleOf (a .table .now) / a .f .interval in
+    table-added (p .0) (a .table .now) (a .f) (a .offset) (p .1) (s .pre .1) n (a .room .now) _ _ refl (s .pre .2)
+    (h .write-head .ensures .1
+    ∙ ap (λ (x : ℕ). roomAfter TableHead (headFields x (k .cycle .result) (f .frame .result)) (a .room .now)) (total t)
+    ∙ ap₂ (λ (x y : ℕ). roomAfter TableHead (headFields n x y) (a .room .now)) (k .cycle .ensures) (f .frame .ensures))
+    (g .write-grants .ensures)
+
+pub write-table-spec : {M : Type 1} → statement M
+write-table-spec =
+    tie.close
+    (tie.spec
+    cycle-requires
+    count-requires
+    times-requires
+    cast-total
+    add-total
+    cast-write-head
+    frame-requires
+    write-head-requires
+    write-grants-requires
+    same-length
+    returns)

@@ -1,0 +1,72 @@
+// The new list and the new table, each written into its room.
+ghost use mathlib.Core.Path.{_≡_};
+ghost use mathlib.Core.Bool.{true};
+ghost use mathlib.Core.List.{List, _++_};
+ghost use Prim.Native.Nat.{ℕ, _+_, _/_, _≤_, _<_};
+ghost use lib.ListN.{length, drop};
+ghost use Rattle.flows.specs.Flows.{keeps};
+ghost use Rattle.refusals.specs.declared.Checked.the-variants.{Passed};
+ghost use Rattle.lists.specs.Lists.{flowsOf};
+ghost use Rattle.lists.specs.Tests.{tests1to4};
+ghost use Rattle.tables.specs.Tables.{count, cycleOf, frameOf, place, tableOf, recordsAfter};
+ghost use Rattle.offsets.specs.Adding.{listBytes, newList};
+ghost use Rattle.adding.specs.Parts.{Joins, comesFirst, grantsAfter};
+use flows::Flow;
+use flows::times;
+use tables::Grant;
+
+// Writes the new list: the old records, and behind them the new flow's.
+pub(crate) fn write_list(list: &[u8], f: Flow, room: &mut [u8])
+    requires { ⌜ (tests1to4 (now list) ≡ Passed) × (keeps f ≡ true) × (listBytes (flowsOf (now list)) f ≤ length (now room)) ⌝ }
+    ensures { λ _. ⌜ now (room .exit) ≡ newList (now (list .entry)) f ++ drop (length (newList (now (list .entry)) f)) (now (room .entry)) ⌝ }
+{
+    let n = lists::count(list);
+    let end = list.len();
+    lists::write_head((n + 1) as u16, room);
+    words::put(&list[4..end], room, 4);
+    lists::write_record(f, n, room);
+}
+
+// Record i of the table's n starts before the slot x.
+fn comes_first(table: &[u8], n: usize, i: usize, x: u64) -> bool
+    ensures { λ r. ⌜ r ≡ comesFirst (now (table .entry)) n i x ⌝ }
+{
+    i < n && (tables::grant_at(table, i).start as u64) < x
+}
+
+// Writes the grants of the table and the new flow's, `total` together, in the order of their starts.
+fn write_grants(table: &[u8], f: Flow, offset: u64, total: usize, room: &mut [u8])
+    requires { ⌜ ((l : List ℕ) × Joins l (now table) f) × (offset < f .interval) × (total ≡ count (now table) + cycleOf (now table) / f .interval) ⌝ }
+    ensures { λ _. ⌜ now (room .exit) ≡ recordsAfter 0 (grantsAfter (now (table .entry)) f offset) (now (room .entry)) ⌝ }
+{
+    let n = tables::count(table);
+    let mut i: usize = 0;
+    let mut k: usize = 0;
+    let mut x = offset;
+    while i + k < total {
+        if comes_first(table, n, i, x) {
+            tables::write_record(tables::grant_at(table, i), i + k, room);
+            i += 1;
+        } else {
+            let new = Grant {
+                flow: f.number,
+                start: x as u16,
+                late: 0,
+            };
+            tables::write_record(new, i + k, room);
+            x += f.interval as u64;
+            k += 1;
+        }
+    }
+}
+
+// Writes the new table: the old grants where they stood, and the new flow's from the offset on.
+pub(crate) fn write_table(table: &[u8], f: Flow, offset: u64, room: &mut [u8])
+    requires { ⌜ ((l : List ℕ) × Joins l (now table) f) × (offset < f .interval) × (place (count (now table) + cycleOf (now table) / f .interval) ≤ length (now room)) ⌝ }
+    ensures { λ _. ⌜ now (room .exit) ≡ tableOf (cycleOf (now (table .entry))) (frameOf (now (table .entry))) (grantsAfter (now (table .entry)) f offset) ++ drop (place (count (now (table .entry)) + cycleOf (now (table .entry)) / f .interval)) (now (room .entry)) ⌝ }
+{
+    let cycle = tables::cycle(table);
+    let total = tables::count(table) + times(cycle, f.interval) as usize;
+    tables::write_head(total as u16, cycle, tables::frame(table), room);
+    write_grants(table, f, offset, total, room);
+}
