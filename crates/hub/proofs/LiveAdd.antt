@@ -12,7 +12,7 @@ use Rattle.flows.specs.declared.flow.Flow.{Flow}
 use Rattle.refusals.specs.declared.Refusal.the-variants.{NoOffset}
 use Rattle.refusals.specs.declared.Checked.the-variants.{Passed}
 use Rattle.lists.specs.Lists.{flowsOf}
-use Rattle.lists.specs.Facts.{cycle, frame, grantsOf as grantsEach}
+use Rattle.lists.specs.Facts.{cycle, grantsOf as grantsEach}
 use Rattle.tables.specs.Tables.{grantsOf}
 use Rattle.tables.proofs.Meaning.{grants-table}
 use Rattle.law.specs.Check.{to, check}
