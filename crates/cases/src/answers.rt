@@ -1,8 +1,18 @@
 // The line of each operation's answer.
+ghost use mathlib.Core.Path.{_≡_};
+ghost use Rattle.lists.specs.Lists.{count, place};
+ghost use Rattle.tables.specs.Tables.{count as tableCount, place as tablePlace};
 use crate::print;
+use offsets::Added;
 use refusals::Checked;
 use refusals::Written;
 use windows::Edges;
+
+// The bytes written, and the sum of the whole room.
+fn filled(bytes: u64, room: &[u8]) {
+    print::field(bytes);
+    print::field(print::adler(room) as u64);
+}
 
 // Refusal and place, the bytes written, and the sum of the whole room.
 fn made(name: &[u8], answer: Written, room: &[u8]) {
@@ -10,14 +20,13 @@ fn made(name: &[u8], answer: Written, room: &[u8]) {
     match answer {
         Written::Refused(r) => {
             print::refusal(r);
-            print::field(0);
+            filled(0, room);
         }
         Written::Bytes(n) => {
             print::word(b" 0 0");
-            print::field(n as u64);
+            filled(n as u64, room);
         }
     }
-    print::field(print::adler(room) as u64);
     print::word(b"\n");
 }
 
@@ -79,5 +88,58 @@ pub fn window(table: &[u8], a: u64, b: u64) {
         }
     }
     print::field(stretch.len() as u64);
+    print::word(b"\n");
+}
+
+// The bytes of the list at the room's front, as its head says.
+fn list_bytes(room: &[u8]) -> u64
+    ensures { λ r. ⌜ r ≡ place (count (now (room .entry))) ⌝ }
+{
+    4 + 6 * lists::count(room) as u64
+}
+
+// The bytes of the table at the room's front, as its head says.
+fn table_bytes(room: &[u8]) -> u64
+    ensures { λ r. ⌜ r ≡ tablePlace (tableCount (now (room .entry))) ⌝ }
+{
+    8 + 5 * tables::count(room) as u64
+}
+
+// Refusal and place, the offset found, and of each room the bytes written and the sum of the whole.
+pub fn add(
+    list: &[u8],
+    table: &[u8],
+    number: u64,
+    size: u64,
+    interval: u64,
+    jitter: u64,
+    list_room: &mut [u8],
+    table_room: &mut [u8],
+) {
+    print::word(b"add");
+    let answer = adding::live_add(
+        list,
+        table,
+        number,
+        size,
+        interval,
+        jitter,
+        list_room,
+        table_room,
+    );
+    match answer {
+        Added::Refused(r) => {
+            print::refusal(r);
+            print::field(0);
+            filled(0, list_room);
+            filled(0, table_room);
+        }
+        Added::Offset(offset) => {
+            print::word(b" 0 0");
+            print::field(offset as u64);
+            filled(list_bytes(list_room), list_room);
+            filled(table_bytes(table_room), table_room);
+        }
+    }
     print::word(b"\n");
 }

@@ -1,5 +1,5 @@
-// Answers the outside cases on standard input, a line for each: sheet to list (1), list to sheet (2), plan (3), check (4) and
-// window (5).
+// Answers the outside cases on standard input, a line for each: sheet to list (1), list to sheet (2), plan (3), check (4), window
+// (5) and live add (6).
 mod answers;
 mod print;
 mod stream;
@@ -51,6 +51,43 @@ fn windowed(table: &mut [u8]) -> bool {
     true
 }
 
+// Reads a list, a table, the four numbers of a flow and the lengths of both rooms, and answers live add.
+fn added(list: &mut [u8], list_room: &mut [u8]) -> bool {
+    let mut table = [0u8; 32768];
+    let mut table_room = [0xA5u8; 32768];
+    let n = stream::string(list);
+    let k = stream::string(&mut table);
+    let number = stream::number();
+    let size = stream::number();
+    let interval = stream::number();
+    let jitter = stream::number();
+    let a = stream::number();
+    let b = stream::number();
+    if list.len() < n {
+        return false;
+    }
+    if table.len() < k {
+        return false;
+    }
+    if list_room.len() < a {
+        return false;
+    }
+    if table_room.len() < b {
+        return false;
+    }
+    answers::add(
+        &list[0..n],
+        &table[0..k],
+        number as u64,
+        size as u64,
+        interval as u64,
+        jitter as u64,
+        &mut list_room[0..a],
+        &mut table_room[0..b],
+    );
+    true
+}
+
 // Answers a case, and whether to go on.
 fn case() -> bool {
     let mut op = [0u8; 1];
@@ -67,7 +104,11 @@ fn case() -> bool {
         if kind == 5 {
             windowed(&mut input)
         } else {
-            written(kind, &mut input, &mut room)
+            if kind == 6 {
+                added(&mut input, &mut room)
+            } else {
+                written(kind, &mut input, &mut room)
+            }
         }
     };
     if !whole {

@@ -3,14 +3,16 @@
 -- here: every refusal is given exactly when its test is the first to find fault, a refusal alters no byte, and any two results that
 -- an operation's statement allows are equal. Assumes nothing.
 use mathlib.Core.Path.{_≡_, refl, sym, ap, ap₂, _∙_}
-use mathlib.Core.Logic.{_↔_}
+use mathlib.Core.Logic.{_⊎_, ⊎-elim, _↔_}
 use mathlib.Core.List.{List, [], _∷_, _++_}
-use Prim.Native.Nat.{ℕ}
+use Prim.Native.Nat.{ℕ, _≤_, _<_}
 use native.Mathlib.Omega.{arith}
-use lib.ListN.{length}
+use lib.Dec.{leb}
+use lib.ListN.{length, drop}
 use denote.Ref.{RefT}
-use borrow.Author.Tests.{lt-ltb, le-ltb, lt-leb, le-leb}
-use Rattle.logic.proofs.Tests.{by-lt}
+use borrow.Author.Tests.{lt-ltb, le-ltb, lt-leb, le-leb, leb-true}
+use Rattle.logic.proofs.Tests.{by-lt, and-both}
+use Rattle.flows.specs.declared.flow.Flow.{Flow}
 use Rattle.refusals.specs.declared.Refusal.{Refusal}
 use Rattle.refusals.specs.declared.Checked.{Checked}
 use Rattle.refusals.specs.declared.Checked.the-variants.{Passed, Refused}
@@ -20,7 +22,7 @@ use Rattle.refusals.specs.declared.Written.the-variants.{Bytes, Refused as Stop
 use Rattle.refusals.specs.Tests.{_⟫_}
 use Rattle.refusals.specs.Answers.{answer, written}
 use Rattle.refusals.specs.First.{inOrder, FirstFault}
-use Rattle.refusals.proofs.Chains.{chain-assoc}
+use Rattle.refusals.proofs.Chains.{chain-assoc, unless-passed}
 use Rattle.refusals.proofs.Exactly.{first-fault}
 use Rattle.lists.specs.Lists.{flowsOf, listOf}
 use Rattle.lists.specs.Facts.{grants}
@@ -34,10 +36,15 @@ use Rattle.tables.specs.Form.{test11, test12, formTests}
 use Rattle.windows.specs.Window.{test19, windowTests}
 use Rattle.law.specs.Check.{test18, tests14to18, lawTests, check}
 use Rattle.planner.specs.Plan.{test8, test9, test10, planTests, planTable, planAnswer}
-use Rattle.hub.specs.Chains.{chain1to4, chain1to7, planChain, formChain, lawChain, checkChain, windowChain, roomTest, sheetChain, listChain}
-use Rattle.hub.specs.Statements.{Writes, Check, Window}
+use Rattle.offsets.specs.declared.Added.{Added}
+use Rattle.offsets.specs.declared.Added.the-variants.{Offset, Refused as NotAdded}
+use Rattle.offsets.specs.Adding.{newFlow, withNew, test9 as bothRooms, test22, newTests, listBytes, tableBytes, addTests, offsetFound, newList, newTable, tableAdded, addAnswer, listRoom as newListRoom, tableRoom as newTableRoom}
+use Rattle.hub.specs.Chains.{chain1to4, chain1to7, planChain, formChain, lawChain, checkChain, windowChain, roomTest, sheetChain, listChain, newChain, addChain}
+use Rattle.hub.specs.Statements.{Writes, Check, Window, LiveAdd}
 use Rattle.windows.proofs.Contents.{one-stretch}
 use Rattle.planner.proofs.Passes.{plan-answers}
+use Rattle.offsets.proofs.Joining.{length-new-list, length-new-table}
+use Rattle.offsets.proofs.Adding.{each-passed, answered}
 
 -- ---- the chains are the operations' tests
 
@@ -93,6 +100,19 @@ check-tests l t =
 pub window-tests : (t : List ℕ) (a b : ℕ) → inOrder (windowChain t a b) ≡ windowTests t a b
 unfolding windowTests inOrder
 window-tests t a b = in-order-append (formChain t) (test19 t a b ∷ []) ∙ ap₂ _⟫_ (form-tests t) (one-last (test19 t a b))
+
+new-tests : (fs : List Flow) (f : Flow) → inOrder (newChain fs f) ≡ newTests fs f
+unfolding newTests inOrder
+new-tests fs f = rw (one-last (test7 (withNew fs f)))
+
+pub add-tests : (l t : List ℕ) (f : Flow) (n m : ℕ) → inOrder (addChain l t f n m) ≡ addTests l t f n m
+unfolding addTests
+add-tests l t f n m =
+    let fs = flowsOf l in
+    let gs = grantsOf t in
+    in-order-append (checkChain l t) _
+    ∙ ap₂ _⟫_ (check-tests l t)
+    (in-order-append (newChain fs f) _ ∙ ap₂ _⟫_ (new-tests fs f) (last-two (bothRooms fs gs f n m) (test22 fs gs f)))
 
 -- ---- each refusal exactly
 
@@ -152,6 +172,22 @@ check-refuses l t = exactly (checkChain l t) (check l t) (check-tests l t)
 pub window-refuses : (t : List ℕ) (a b : ℕ) (r : Refusal) → (windowTests t a b ≡ Refused r) ↔ FirstFault (windowChain t a b) r
 window-refuses t a b = exactly (windowChain t a b) (windowTests t a b) (window-tests t a b)
 
+-- live add answers a refusal exactly where its tests refuse
+pub add-stops : (l t : List ℕ) (f : Flow) (n m : ℕ) (r : Refusal) → (addAnswer l t f n m ≡ NotAdded r) ↔ (addTests l t f n m ≡ Refused r)
+unfolding addAnswer
+add-stops l t f n m r = (go (addTests l t f n m), λ e. rw (e, addAnswer))
+  where
+    go : (c : Checked) → elim c [ Passed ↦ Offset (offsetFound (flowsOf l) (grantsOf t) f) | Refused q ↦ NotAdded q ] ≡ NotAdded r → c ≡ Refused r
+    go Passed e = let z : _≡_ {A = ℕ} 0 1 = cc in absurd (omega arith)
+    go (Refused q) e = let z : q ≡ r = cc in ap (λ (x : Refusal). Refused x) z
+
+-- live add refuses exactly by the first of its tests that finds fault
+pub add-refuses : (l t : List ℕ) (f : Flow) (n m : ℕ) (r : Refusal) → (addAnswer l t f n m ≡ NotAdded r) ↔ FirstFault (addChain l t f n m) r
+add-refuses l t f n m r =
+    let stops = add-stops l t f n m r in
+    let first = exactly (addChain l t f n m) (addTests l t f n m) (add-tests l t f n m) r in
+    (λ h. first .0 (stops .0 h), λ h. stops .1 (first .1 h))
+
 -- ---- a refusal alters no byte
 
 -- where an operation that writes refuses, its room is as it was
@@ -161,6 +197,54 @@ refused-untouched (Refused q) bs room r e = refl
 refused-untouched Passed bs room r e =
     by-lt (length room) (length bs) (λ h. rw (lt-ltb (length room) (length bs) h))
     (λ h. let z : Bytes (length bs) ≡ Stopped r = rw (le-ltb (length room) (length bs) h) at e in let z′ : _≡_ {A = ℕ} 0 1 = cc in absurd (omega arith))
+
+-- where live add refuses, both rooms are as they were
+pub add-untouched : (l t : List ℕ) (number size interval jitter : ℕ) (a b a′ b′ : List ℕ) (r : Refusal)
+    → LiveAdd l t number size interval jitter a b (NotAdded r) a′ b′ → (a′ ≡ a) × (b′ ≡ b)
+unfolding newListRoom newTableRoom written
+add-untouched l t number size interval jitter a b a′ b′ r h =
+    let f = newFlow number size interval jitter in
+    let e : addTests l t f (length a) (length b) ≡ Refused r = add-stops l t f (length a) (length b) r .0 (sym (h .result)) in
+    (h .list-bytes ∙ rw e, h .table-bytes ∙ rw e)
+
+-- ---- success writes exactly the needed bytes at the front, and the rest stays
+
+-- bytes that a room is long enough for stand at its front, and the rest of it stays
+fills : (bs room : List ℕ) → length bs ≤ length room → written Passed bs room ≡ bs ++ drop (length bs) room
+unfolding written
+fills bs room h = rw (le-ltb (length room) (length bs) h)
+
+-- where live add's tests pass, both rooms are long enough
+roomy : (l t : List ℕ) (f : Flow) (n m : ℕ) → addTests l t f n m ≡ Passed → (listBytes (flowsOf l) f ≤ n) × (tableBytes (flowsOf l) (grantsOf t) f ≤ m)
+unfolding bothRooms
+roomy l t f n m e =
+    let y = and-both (leb (listBytes (flowsOf l) f) n) _ (unless-passed _ Room (each-passed l t f n m e .2)) in
+    (leb-true _ _ (y .0), leb-true _ _ (y .1))
+
+-- where either room is too short, be it only one, both are as they were
+pub add-short : (l t : List ℕ) (number size interval jitter : ℕ) (a b : List ℕ) (r : Added) (a′ b′ : List ℕ)
+    → LiveAdd l t number size interval jitter a b r a′ b′
+    → let f = newFlow number size interval jitter in
+    (length a < listBytes (flowsOf l) f) ⊎ (length b < tableBytes (flowsOf l) (grantsOf t) f) → (a′ ≡ a) × (b′ ≡ b)
+add-short l t number size interval jitter a b (NotAdded r) a′ b′ h s = add-untouched l t number size interval jitter a b a′ b′ r h
+add-short l t number size interval jitter a b (Offset o) a′ b′ h s =
+    let f = newFlow number size interval jitter in
+    let y = roomy l t f (length a) (length b) (answered l t f (length a) (length b) o (sym (h .result)) .0) in
+    ⊎-elim (λ p. absurd (omega (arith, y .0))) (λ p. absurd (omega (arith, y .1))) s
+
+-- live add writes the new list and the table with the new flow at the offset that it answers
+pub add-writes : (l t : List ℕ) (number size interval jitter : ℕ) (a b a′ b′ : List ℕ) (o : ℕ)
+    → LiveAdd l t number size interval jitter a b (Offset o) a′ b′
+    → let f = newFlow number size interval jitter in
+    (a′ ≡ newList l f ++ drop (length (newList l f)) a) × (b′ ≡ newTable l t f o ++ drop (length (newTable l t f o)) b)
+unfolding newListRoom newTableRoom tableAdded
+add-writes l t number size interval jitter a b a′ b′ o h =
+    let f = newFlow number size interval jitter in
+    let e = answered l t f (length a) (length b) o (sym (h .result)) in
+    let y = roomy l t f (length a) (length b) (e .0) in (
+      h .list-bytes ∙ rw (e .0) (fills (newList l f) a (omega (arith, y .0, length-new-list l f))),
+      h .table-bytes ∙ rw (e .0, e .1) (fills (newTable l t f o) b (omega (arith, y .1, length-new-table l t f o))),
+    )
 
 -- ---- any two results that a statement allows are equal
 
@@ -177,3 +261,9 @@ check-once l t r q a b = a ∙ sym b
 pub window-once : (t : RefT (List ℕ)) (a b : ℕ) (r q : RefT (List ℕ)) → Window t a b r → Window t a b q
     → (r .now ≡ q .now) × (r .ptr .0 ≡ q .ptr .0) × (r .ptr .1 ≡ q .ptr .1)
 window-once t a b r q w v = one-stretch t r q _ _ w v
+
+-- live add: its answer, and both rooms
+pub add-once : (l t : List ℕ) (number size interval jitter : ℕ) (a b : List ℕ) (r q : Added) (a′ a″ b′ b″ : List ℕ)
+    → LiveAdd l t number size interval jitter a b r a′ b′ → LiveAdd l t number size interval jitter a b q a″ b″ → (r ≡ q) × (a′ ≡ a″) × (b′ ≡ b″)
+add-once l t number size interval jitter a b r q a′ a″ b′ b″ x y =
+    (x .result ∙ sym (y .result), x .list-bytes ∙ sym (y .list-bytes), x .table-bytes ∙ sym (y .table-bytes))

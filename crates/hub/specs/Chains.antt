@@ -1,8 +1,9 @@
--- The tests of every operation, one after the other as document 01 lists them. Assumes nothing.
+-- The tests of every operation, one after the other as documents 01 and 02 list them. Assumes nothing.
 use mathlib.Core.List.{List, [], _∷_, _++_}
 use Prim.Native.Nat.{ℕ}
 use lib.Dec.{leb}
 use lib.ListN.{length}
+use Rattle.flows.specs.declared.flow.Flow.{Flow}
 use Rattle.refusals.specs.declared.Refusal.the-variants.{Room}
 use Rattle.refusals.specs.declared.Checked.{Checked}
 use Rattle.refusals.specs.Tests.{unless}
@@ -16,6 +17,7 @@ use Rattle.tables.specs.Form.{test11, test12}
 use Rattle.windows.specs.Window.{test19}
 use Rattle.law.specs.Check.{test13, test14, test15, test16, test17, test18}
 use Rattle.planner.specs.Plan.{test8, test9, test10}
+use Rattle.offsets.specs.Adding.{withNew, test21, test9 as bothRooms, test22}
 
 -- 1 to 4 of a list
 abbrev pub chain1to4 : List ℕ → List Checked
@@ -58,3 +60,14 @@ sheetChain s n = test20 s ∷ test3 (length (flowsIn s)) ∷ test4 (flowsIn s) �
 -- "list to sheet tests 1 to 4, 9": a list, for a room of n bytes
 abbrev pub listChain : List ℕ → ℕ → List Checked
 listChain l n = chain1to4 l ++ (roomTest (text (flowsOf l)) n ∷ [])
+
+-- "3 to 6 on the new list, 21 interval below the frame or over the cycle, 7 on the new list": a flow more than these
+abbrev pub newChain : List Flow → Flow → List Checked
+newChain fs f =
+    test3 (length (withNew fs f)) ∷ test4 (withNew fs f) ∷ test5 (withNew fs f) ∷ test6 (withNew fs f) ∷ test21 fs f ∷ test7 (withNew fs f) ∷ []
+
+-- live add, "old list and table first", then those on the new list, "9 for either room, 22 exactly when no such offset exists": for
+-- rooms of n and m bytes
+abbrev pub addChain : List ℕ → List ℕ → Flow → ℕ → ℕ → List Checked
+addChain l t f n m =
+    checkChain l t ++ (newChain (flowsOf l) f ++ (bothRooms (flowsOf l) (grantsOf t) f n m ∷ test22 (flowsOf l) (grantsOf t) f ∷ []))

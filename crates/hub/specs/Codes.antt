@@ -7,6 +7,8 @@ use Rattle.refusals.specs.declared.Written.the-variants.{Bytes, Refused}
 use Rattle.refusals.specs.Refusals.{number, place}
 use Rattle.windows.specs.declared.stretch.Edges.{Edges}
 use Rattle.windows.specs.declared.stretch.Edges.the-variants.{Bytes as Between, Refused as Stopped}
+use Rattle.offsets.specs.declared.Added.{Added}
+use Rattle.offsets.specs.declared.Added.the-variants.{Offset, Refused as NotAdded}
 
 -- 0 when the work is done, otherwise the refusal's number
 abbrev pub code : Written → ℕ
@@ -42,3 +44,13 @@ windowFirst (Stopped r) = 0
 abbrev pub windowBytes : Edges → ℕ
 windowBytes (Between i e) = e - i
 windowBytes (Stopped r) = 0
+
+-- live add: 0 when the flow is added, otherwise the refusal's number
+abbrev pub addCode : Added → ℕ
+addCode (Offset o) = 0
+addCode (NotAdded r) = number r
+
+-- the offset; refused, the place
+abbrev pub addValue : Added → ℕ
+addValue (Offset o) = o
+addValue (NotAdded r) = place r

@@ -1,3 +1,4 @@
 pub mod Chains
 pub mod Statements
+pub mod NewPair
 pub mod Codes

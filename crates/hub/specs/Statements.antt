@@ -11,6 +11,8 @@ use Rattle.sheets.specs.Answers.{listAnswer, listRoom, sheetAnswer, sheetRoom}
 use Rattle.windows.specs.Window.{windowTests, edge, Stretch}
 use Rattle.law.specs.Check.{check}
 use Rattle.planner.specs.Plan.{planAnswer, planRoom}
+use Rattle.offsets.specs.declared.Added.{Added}
+use Rattle.offsets.specs.Adding.{newFlow, addAnswer, listRoom as newListRoom, tableRoom as newTableRoom}
 
 -- an operation that writes: r is its answer and room′ the room afterwards
 pub record Writes (answer : ℕ → Written) (after : List ℕ → List ℕ) (room : List ℕ) (r : Written) (room′ : List ℕ) : Type 0 where
@@ -36,3 +38,9 @@ Check l t r = r ≡ check l t
 -- window: r is the stretch of the caller's own table t; it writes nothing
 abbrev pub Window : RefT (List ℕ) → ℕ → ℕ → RefT (List ℕ) → Type 0
 Window t a b r = Stretch t r (edge (windowTests (t .now) a b) (t .now) a) (edge (windowTests (t .now) a b) (t .now) b)
+
+-- live add of the flow with these four numbers: r is its answer, and a′ and b′ are the list's room a and the table's room b afterwards
+pub record LiveAdd (l t : List ℕ) (number size interval jitter : ℕ) (a b : List ℕ) (r : Added) (a′ b′ : List ℕ) : Type 0 where
+  pub result : r ≡ addAnswer l t (newFlow number size interval jitter) (length a) (length b)
+  pub list-bytes : a′ ≡ newListRoom l t (newFlow number size interval jitter) a (length b)
+  pub table-bytes : b′ ≡ newTableRoom l t (newFlow number size interval jitter) (length a) b

@@ -6,7 +6,9 @@ ghost use Rattle.sheets.specs.Answers.{listAnswer, listRoom, sheetAnswer, sheet
 ghost use Rattle.law.specs.Check.{check};
 ghost use Rattle.planner.specs.Plan.{planAnswer, planRoom};
 ghost use Rattle.windows.specs.Window.{edgesOf};
-ghost use Rattle.hub.specs.Codes.{code, value, checkCode, checkValue, windowCode, windowFirst, windowBytes};
+ghost use Rattle.offsets.specs.Adding.{newFlow, addAnswer, listRoom as newListRoom, tableRoom as newTableRoom};
+ghost use Rattle.hub.specs.Codes.{code, value, checkCode, checkValue, windowCode, windowFirst, windowBytes, addCode, addValue};
+use offsets::Added;
 use refusals::Checked;
 use refusals::Written;
 use windows::Edges;
@@ -105,4 +107,52 @@ pub extern "C" fn snowploughy_window(
             r.number()
         }
     }
+}
+
+// What was added as a number, with the offset or the place through the pointer.
+fn report_added(added: Added, out: &mut u64) -> u32
+    ensures { λ r. ⌜ (r ≡ addCode added) × (now (out .exit) ≡ addValue added) ⌝ }
+{
+    match added {
+        Added::Offset(offset) => {
+            *out = offset as u64;
+            0
+        }
+        Added::Refused(r) => {
+            *out = r.place() as u64;
+            r.number()
+        }
+    }
+}
+
+// Adds one flow, given by four plain numbers, to a running table: the tests of the old list and table, then 3 to 6 on the new list,
+// 21, 7 on the new list, 9 for either room, and 22. Done, the value is the offset.
+#[no_mangle]
+pub extern "C" fn snowploughy_live_add(
+    list: &[u8],
+    table: &[u8],
+    number: u64,
+    size: u64,
+    interval: u64,
+    jitter: u64,
+    list_room: &mut [u8],
+    table_room: &mut [u8],
+    out: &mut u64,
+) -> u32
+    ensures number { λ r. ⌜ r ≡ addCode (addAnswer (now (list .entry)) (now (table .entry)) (newFlow number size interval jitter) (length (now («list_room» .entry))) (length (now («table_room» .entry)))) ⌝ }
+    ensures value { λ _. ⌜ now (out .exit) ≡ addValue (addAnswer (now (list .entry)) (now (table .entry)) (newFlow number size interval jitter) (length (now («list_room» .entry))) (length (now («table_room» .entry)))) ⌝ }
+    ensures list_room { λ _. ⌜ now («list_room» .exit) ≡ newListRoom (now (list .entry)) (now (table .entry)) (newFlow number size interval jitter) (now («list_room» .entry)) (length (now («table_room» .entry))) ⌝ }
+    ensures table_room { λ _. ⌜ now («table_room» .exit) ≡ newTableRoom (now (list .entry)) (now (table .entry)) (newFlow number size interval jitter) (length (now («list_room» .entry))) (now («table_room» .entry)) ⌝ }
+{
+    let added = adding::live_add(
+        list,
+        table,
+        number,
+        size,
+        interval,
+        jitter,
+        list_room,
+        table_room,
+    );
+    report_added(added, out)
 }

@@ -3,7 +3,9 @@
 // Every operation answers for every input; no caller has to check anything first. The promises about them stand in `proofs/`.
 mod c;
 
+pub use adding::live_add;
 pub use checking::check;
+pub use offsets::Added;
 pub use planner::plan;
 pub use printing::sheet_from_list;
 pub use reading::list_from_sheet;

@@ -37,6 +37,18 @@ found fs gs f e = go (offset fs gs f) e
     go none q = refused-not NoOffset q
     go (some o) q = refl
 
+-- where live add's tests pass, each of them does
+pub each-passed : (l t : List ℕ) (f : Flow) (n m : ℕ) → addTests l t f n m ≡ Passed
+    → (check l t ≡ Passed) × (newTests (flowsOf l) f ≡ Passed) × (test9 (flowsOf l) (grantsIn t) f n m ≡ Passed) × (test22 (flowsOf l) (grantsIn t) f ≡ Passed)
+unfolding addTests
+each-passed l t f n m e =
+    let fs = flowsOf l in
+    let gs = grantsIn t in
+    let a = both-passed (check l t) _ e in
+    let b = both-passed (newTests fs f) _ (a .1) in
+    let c = both-passed (test9 fs gs f n m) (test22 fs gs f) (b .1) in
+    (a .0, b .0, c .0, c .1)
+
 -- what live add's tests leave
 record Tested (l t : List ℕ) (f : Flow) : Type 0 where
   passes : check l t ≡ Passed
@@ -46,15 +58,13 @@ record Tested (l t : List ℕ) (f : Flow) : Type 0 where
   smaller : (j : ℕ) → j < offsetFound (flowsOf l) (grantsIn t) f → fits (flowsOf l) (grantsIn t) f j ≡ false
 
 tested : (l t : List ℕ) (f : Flow) (n m : ℕ) → addTests l t f n m ≡ Passed → Tested l t f
-unfolding addTests offset
+unfolding offset
 tested l t f n m e =
     let fs = flowsOf l in
     let gs = grantsIn t in
-    let a = both-passed (check l t) _ e in
-    let b = both-passed (newTests fs f) _ (a .1) in
-    let c = both-passed (test9 fs gs f n m) (test22 fs gs f) (b .1) in
-    let y = smallest-exactly (fits fs gs f) (f .interval) (offsetFound fs gs f) .0 (found fs gs f (c .1)) in
-    record { passes = a .0; new = b .0; below = y .0; fit = y .1; smaller = y .2 }
+    let p = each-passed l t f n m e in
+    let y = smallest-exactly (fits fs gs f) (f .interval) (offsetFound fs gs f) .0 (found fs gs f (p .3)) in
+    record { passes = p .0; new = p .1; below = y .0; fit = y .1; smaller = y .2 }
 
 -- the new pair passes the check
 pub added-passes : (l t : List ℕ) (f : Flow) (n m : ℕ) → addTests l t f n m ≡ Passed → check (newList l f) (tableAdded l t f) ≡ Passed
@@ -64,7 +74,7 @@ added-passes l t f n m e =
     fits-passes l t f (y .passes) (y .new) (offsetFound (flowsOf l) (grantsIn t) f) (y .fit)
 
 -- an offset is answered where all tests pass, and is the one that is found
-answered : (l t : List ℕ) (f : Flow) (n m o : ℕ) → addAnswer l t f n m ≡ Offset o → (addTests l t f n m ≡ Passed) × (offsetFound (flowsOf l) (grantsIn t) f ≡ o)
+pub answered : (l t : List ℕ) (f : Flow) (n m o : ℕ) → addAnswer l t f n m ≡ Offset o → (addTests l t f n m ≡ Passed) × (offsetFound (flowsOf l) (grantsIn t) f ≡ o)
 unfolding addAnswer
 answered l t f n m o e = go (addTests l t f n m) e
   where
