@@ -21,10 +21,10 @@ use Rattle.law.specs.Check.{to, check}
 use Rattle.law.specs.Lawful.{Lawful}
 use Rattle.offsets.specs.declared.Added.the-variants.{Offset, Refused as Stopped}
 use Rattle.offsets.specs.Offsets.{fits, offset, others}
-use Rattle.offsets.specs.Adding.{newTests, test9, test22, addTests, offsetFound, newList, newTable, tableAdded, addAnswer}
+use Rattle.offsets.specs.Adding.{newTests, test9, test22, addTests, offsetFound, newList, newTable, addAnswer}
 use Rattle.offsets.proofs.Smallest.{smallest-exactly, none-exactly}
 use Rattle.offsets.proofs.Numbers.{check-below, new-below, room-below}
-use Rattle.offsets.proofs.Standing.{fits-passes, fits-exactly, standing-fits}
+use Rattle.offsets.proofs.Standing.{fits-exactly, standing-fits}
 
 -- ---- where all tests pass
 
@@ -65,13 +65,6 @@ tested l t f n m e =
     let p = each-passed l t f n m e in
     let y = smallest-exactly (fits fs gs f) (f .interval) (offsetFound fs gs f) .0 (found fs gs f (p .3)) in
     record { passes = p .0; new = p .1; below = y .0; fit = y .1; smaller = y .2 }
-
--- the new pair passes the check
-pub added-passes : (l t : List ℕ) (f : Flow) (n m : ℕ) → addTests l t f n m ≡ Passed → check (newList l f) (tableAdded l t f) ≡ Passed
-unfolding tableAdded
-added-passes l t f n m e =
-    let y = tested l t f n m e in
-    fits-passes l t f (y .passes) (y .new) (offsetFound (flowsOf l) (grantsIn t) f) (y .fit)
 
 -- an offset is answered where all tests pass, and is the one that is found
 pub answered : (l t : List ℕ) (f : Flow) (n m o : ℕ) → addAnswer l t f n m ≡ Offset o → (addTests l t f n m ≡ Passed) × (offsetFound (flowsOf l) (grantsIn t) f ≡ o)
