@@ -1,15 +1,16 @@
 // The smallest offset at which the new flow fits: the intervals of the cycle are laid over one another, and the first run of free
 // places is taken.
 ghost use mathlib.Core.Path.{_≡_};
+ghost use mathlib.Core.Bool.{cond};
 ghost use Prim.Native.Nat.{_+_, _*_, _%_, _≤_, _<_};
 ghost use lib.ListN.{length};
 ghost use Rattle.lists.specs.Lists.{flowsOf};
-ghost use Rattle.tables.specs.Tables.{grantsOf as grantsIn};
+ghost use Rattle.tables.specs.Tables.{count, grantsOf as grantsIn};
 ghost use Rattle.law.specs.Check.{slots};
 ghost use Rattle.finding.specs.Parts.{Indexed};
 ghost use Rattle.marks.specs.Marks.{marked};
 ghost use Rattle.offsets.specs.Offsets.{offset};
-ghost use Rattle.adding.specs.Parts.{Joins, Laid, Overlaid, firstRun, firstOf};
+ghost use Rattle.adding.specs.Parts.{Joins, Unmarked, Laid, Overlaid, firstRun, firstOf};
 use facts::occupies;
 use finding::NUMBERS;
 use finding::find;
@@ -64,7 +65,8 @@ fn slots_of(list: &[u8], records: &[u8], g: Grant) -> u16
 fn mark_grants(list: &[u8], records: &[u8], table: &[u8], interval: u16, taken: &mut [u8])
     requires { ⌜ Indexed (flowsOf (now list)) 0 (now records) ⌝ }
     requires { ⌜ (0 < interval) × (interval ≤ 8 * length (now taken)) ⌝ }
-    ensures { λ _. ⌜ Overlaid (flowsOf (now (list .entry))) (grantsIn (now (table .entry))) (now (taken .entry)) interval (now (taken .exit)) ⌝ }
+    requires { ⌜ Unmarked (now taken) ⌝ }
+    ensures { λ _. ⌜ Overlaid (flowsOf (now (list .entry))) (grantsIn (now (table .entry))) (count (now (table .entry))) interval (now (taken .exit)) ⌝ }
 {
     for i in 0..tables::count(table) {
         let g = tables::grant_at(table, i);
@@ -75,6 +77,8 @@ fn mark_grants(list: &[u8], records: &[u8], table: &[u8], interval: u16, taken: 
 
 // Where a run of free places that starts at `offset` starts after place p: behind it, if it is taken.
 fn run_start(taken: &[u8], offset: u16, p: u16) -> u16
+    requires { ⌜ p + 1 < 65536 ⌝ }
+    ensures { λ r. ⌜ r ≡ cond (marked (now (taken .entry)) p) (p + 1) offset ⌝ }
 {
     if marked(taken, p) { p + 1 } else { offset }
 }

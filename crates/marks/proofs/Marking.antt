@@ -1,18 +1,22 @@
 -- Marking a number that is not marked, and one that is. Assumes nothing.
-use mathlib.Core.Path.{_≡_, refl, _∙_}
+use mathlib.Core.Path.{_≡_, refl}
 use mathlib.Core.List.{List}
 use Prim.Native.Nat.{ℕ, _+_, _/_, _%_, _^_, _≤_, _<_}
 use native.Mathlib.Omega.{arith}
 use native.Mathlib.Nat.{zero-div}
-use lib.ListN.{length, getD, set, List·getD-eq-default}
+use lib.ListN.{length, getD, set, replicate, length-replicate, getD-replicate, List·getD-eq-default}
 use lib.Seq.{getD-set-same, getD-set-other}
-use Rattle.logic.proofs.Tests.{by-eq}
+use Rattle.logic.proofs.Tests.{by-lt, by-eq}
 use Rattle.marks.specs.Marks.{bit, Marks}
 use Rattle.marks.proofs.Bits.{bit-set, bit-other}
 
 -- a number without a bit is not marked
 pub none-beyond : (xs : List ℕ) (x : ℕ) → length xs ≤ x / 8 → bit xs x ≡ 0
 none-beyond xs x h = rw (List·getD-eq-default xs 0 h, zero-div (2 ^ (x % 8)))
+
+-- nor is any where all bytes are 0
+pub none-marked : (n x : ℕ) → bit (replicate n 0) x ≡ 0
+none-marked n x = by-lt (x / 8) n (λ h. rw (getD-replicate {A = ℕ} n (x / 8) 0 0 h, zero-div (2 ^ (x % 8)))) (λ h. none-beyond (replicate n 0) x (rw (length-replicate {A = ℕ} n 0) h))
 
 -- its bit is 0: its weight is added
 pub marks-new : (xs : List ℕ) (x : ℕ) → x / 8 < length xs → bit xs x ≡ 0 → Marks xs x (set xs (x / 8) (getD xs (x / 8) 0 + 2 ^ (x % 8)))

@@ -2,7 +2,6 @@
 -- Assumes nothing.
 use mathlib.Core.Path.{sym, _∙_}
 use borrow.Author.Needs.{needs}
-use borrow.Author.Tests.{not-false}
 use Rattle.logic.proofs.Tests.{true-not-false}
 use Rattle.pairing.proofs.Seen.{noted-more}
 use Rattle.pairing.proofs.numbers.note.Statement.{statement}
