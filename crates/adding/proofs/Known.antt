@@ -31,6 +31,7 @@ pub record Known (l t : List ℕ) (f : Flow) : Type 0 where
   pub cycle-le : cycle (flowsOf l) ≤ 4096
   pub fills : grantsOf (cycle (flowsOf l)) f * f .interval ≡ cycle (flowsOf l)
   pub chain : Chain (flowsOf l) 0 (cycle (flowsOf l)) (grantsIn t)
+  pub sized : All (λ g. 0 < slots (flowsOf l) g) (grantsIn t)
   pub rising : Rising (grantsIn t)
   pub early : All (λ g. g .start < cycle (flowsOf l)) (grantsIn t)
 
@@ -52,6 +53,7 @@ known l t f j =
       cycle-le = cycle-fits fs ok;
       fills = fills fs f gs N;
       chain = chain;
+      sized = sized;
       rising = chain-rising fs 0 (cycle fs) gs sized chain;
       early = chain-before fs 0 (cycle fs) gs sized chain;
     }

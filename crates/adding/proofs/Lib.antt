@@ -4,5 +4,7 @@ pub mod Merging
 pub mod Known
 pub mod Listing
 pub mod Tabling
+pub mod Overlays
+pub mod Runs
 pub mod Searching
 pub mod Answering

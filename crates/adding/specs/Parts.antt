@@ -1,19 +1,21 @@
 -- What the code's own parts ask and answer. Assumes nothing.
 use mathlib.Core.Path.{_≡_}
-use mathlib.Core.Bool.{Bool, true, false, cond, _&&_}
+use mathlib.Core.Bool.{Bool, true, cond, not, _&&_}
+use mathlib.Core.Logic.{_⊎_}
 use mathlib.Core.List.{List}
 use mathlib.Core.Option.{Option, none, some}
-use Prim.Native.Nat.{ℕ, _+_, _≤_, _<_}
-use lib.Dec.{ltb}
-use Rattle.logic.specs.Lists.{every}
+use Prim.Native.Nat.{ℕ, zero, suc, _+_, _%_, _≤_, _<_}
+use lib.Dec.{ltb, leb}
+use Rattle.marks.specs.Marks.{bit, marked}
 use Rattle.flows.specs.declared.flow.Flow.{Flow}
 use Rattle.flows.specs.Flows.{keeps}
 use Rattle.refusals.specs.declared.Checked.the-variants.{Passed}
 use Rattle.lists.specs.Lists.{flowsOf}
 use Rattle.tables.specs.declared.packed.Grant.{Grant}
 use Rattle.tables.specs.Tables.{cycleOf, grantAt, grantsOf as grantsIn}
-use Rattle.law.specs.Check.{check}
-use Rattle.offsets.specs.Offsets.{newGrants, apart, fits, joined}
+use Rattle.law.specs.Check.{check, slots}
+use Rattle.law.specs.Law.{nth}
+use Rattle.offsets.specs.Offsets.{newGrants, smallest, joined}
 use Rattle.offsets.specs.Adding.{newTests}
 use Rattle.adding.specs.declared.asked.Asked.{Asked}
 use Rattle.adding.specs.declared.asked.Asked.the-variants.{Kept, Broken}
@@ -38,18 +40,37 @@ abbrev pub firstOf : Option ℕ → First
 firstOf none = Nowhere
 firstOf (some o) = At o
 
--- the new flow's grant at slot x moved on by r slots: it shares no slot with a grant of the table where r is 0, and otherwise it does
--- at each of the r slots from x on
-pub record Clears (l t : List ℕ) (f : Flow) (x r : ℕ) : Type 0 where
-  pub clear : r ≡ 0 → every (apart (flowsOf l) f (newGrant f x)) (grantsIn t) ≡ true
-  pub meets : (j : ℕ) → j < r → every (apart (flowsOf l) f (newGrant f (x + j))) (grantsIn t) ≡ false
-  pub small : r ≤ 4096
+-- nothing is marked
+abbrev pub Unmarked : List ℕ → Type 0
+Unmarked bs = (p : ℕ) → bit bs p ≡ 0
 
--- the new flow moved on by r offsets from o: it fits where r is 0, and otherwise at none of the r offsets from o on
-pub record Moves (l t : List ℕ) (f : Flow) (o r : ℕ) : Type 0 where
-  pub fit : r ≡ 0 → fits (flowsOf l) (grantsIn t) f o ≡ true
-  pub clash : (j : ℕ) → j < r → fits (flowsOf l) (grantsIn t) f (o + j) ≡ false
-  pub small : r ≤ 4096
+-- the places in an interval of i slots of the slots a to b less one are marked in ys, with all that are in xs, and no others
+pub record Laid (xs : List ℕ) (i a b : ℕ) (ys : List ℕ) : Type 0 where
+  pub all : (s : ℕ) → a ≤ s → s < b → bit ys (s % i) ≡ 1
+  pub old : (p : ℕ) → bit xs p ≡ 1 → bit ys p ≡ 1
+  pub only : (p : ℕ) → bit ys p ≡ 1 → (bit xs p ≡ 1) ⊎ ((s : ℕ) × (a ≤ s) × (s < b) × (s % i ≡ p))
+
+-- s is a slot of the grant g of the table
+abbrev pub SlotOf : List Flow → Grant → ℕ → Type 0
+SlotOf fs g s = (g .start ≤ s) × (s < g .start + slots fs g)
+
+-- the places in an interval of i slots of the slots of the first n grants are marked, and no others
+pub record Overlaid (fs : List Flow) (gs : List Grant) (n i : ℕ) (bs : List ℕ) : Type 0 where
+  pub all : (k s : ℕ) → k < n → SlotOf fs (nth gs k) s → bit bs (s % i) ≡ 1
+  pub only : (p : ℕ) → bit bs p ≡ 1 → (k : ℕ) × (s : ℕ) × (k < n) × SlotOf fs (nth gs k) s × (s % i ≡ p)
+
+-- n places from p on are free
+unfoldable pub freeFrom : List ℕ → ℕ → ℕ → Bool
+freeFrom bs p zero = true
+freeFrom bs p (suc n) = not (marked bs p) && freeFrom bs (suc p) n
+
+-- n places from p on are free and end in an interval of i slots
+abbrev pub runAt : List ℕ → ℕ → ℕ → ℕ → Bool
+runAt bs n i p = leb (p + n) i && freeFrom bs p n
+
+-- the first of them
+abbrev pub firstRun : List ℕ → ℕ → ℕ → Option ℕ
+firstRun bs n i = smallest (runAt bs n i) 0 i
 
 -- record i of n starts before the slot x
 abbrev pub comesFirst : List ℕ → ℕ → ℕ → ℕ → Bool

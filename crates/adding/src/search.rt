@@ -1,22 +1,28 @@
-// The smallest offset at which the new flow fits.
+// The smallest offset at which the new flow fits: the intervals of the cycle are laid over one another, and the first run of free
+// places is taken.
 ghost use mathlib.Core.Path.{_≡_};
-ghost use Prim.Native.Nat.{_+_, _≤_, _<_};
+ghost use mathlib.Core.Bool.{cond};
+ghost use Prim.Native.Nat.{_+_, _*_, _%_, _≤_, _<_};
 ghost use lib.ListN.{length};
-ghost use Rattle.lists.specs.Lists.{count, flowsOf};
-ghost use Rattle.lists.specs.Facts.{occupies};
-ghost use Rattle.tables.specs.Tables.{cycleOf, grantsOf as grantsIn};
+ghost use Rattle.lists.specs.Lists.{flowsOf};
+ghost use Rattle.tables.specs.Tables.{count, grantsOf as grantsIn};
 ghost use Rattle.law.specs.Check.{slots};
 ghost use Rattle.finding.specs.Parts.{Indexed};
+ghost use Rattle.marks.specs.Marks.{marked};
 ghost use Rattle.offsets.specs.Offsets.{offset};
-ghost use Rattle.adding.specs.Parts.{Joins, Clears, Moves, firstOf};
+ghost use Rattle.adding.specs.Parts.{Joins, Unmarked, Laid, Overlaid, firstRun, firstOf};
 use facts::occupies;
 use finding::NUMBERS;
 use finding::find;
 use finding::index;
 use finding::record_of;
 use flows::Flow;
+use marks::mark;
+use marks::marked;
 use tables::Grant;
-use windows::grants_before;
+
+// Bytes for the marks of all places of the longest interval, which has 4,096.
+const BYTES: usize = 512;
 
 // The offset that the new flow gets.
 pub enum First {
@@ -24,49 +30,72 @@ pub enum First {
     Nowhere,
 }
 
-// The slot behind a grant of the table.
-fn end_of(list: &[u8], records: &[u8], g: Grant) -> u64
+// The place after p in an interval.
+fn next_place(p: u16, interval: u16) -> u16
+    requires { ⌜ p < interval ⌝ }
+    ensures { λ r. ⌜ r ≡ (p + 1) % interval ⌝ }
+{
+    let next = p + 1;
+    if next == interval { 0 } else { next }
+}
+
+// Marks the places in the interval of the slots from `start` on.
+fn mark_slots(taken: &mut [u8], interval: u16, start: u16, slots: u16)
+    requires { ⌜ (0 < interval) × (interval ≤ 8 * length (now taken)) ⌝ }
+    ensures { λ _. ⌜ Laid (now (taken .entry)) interval start (start + slots) (now (taken .exit)) ⌝ }
+{
+    let mut p = start % interval;
+    for _ in 0..slots {
+        mark(taken, p);
+        p = next_place(p, interval);
+    }
+}
+
+// The slots of a grant of the table.
+fn slots_of(list: &[u8], records: &[u8], g: Grant) -> u16
     requires { ⌜ Indexed (flowsOf (now list)) 0 (now records) ⌝ }
-    ensures { λ r. ⌜ r ≡ g .start + slots (flowsOf (now (list .entry))) g ⌝ }
+    ensures { λ r. ⌜ r ≡ slots (flowsOf (now (list .entry))) g ⌝ }
 {
     let k = record_of(records, g.flow);
     let found = find(list, lists::count(list), k, g.flow);
-    g.start as u64 + occupies(found.flow) as u64
+    occupies(found.flow)
 }
 
-// How much later than at slot x the new flow's grant would have to start to be clear of the last grant that starts before its end; 0
-// where it is clear of all.
-fn clash(list: &[u8], records: &[u8], table: &[u8], f: Flow, x: u64) -> u64
-    requires { ⌜ Joins (now list) (now table) f × Indexed (flowsOf (now list)) 0 (now records) × (x ≤ 4096) ⌝ }
-    ensures { λ r. ⌜ Clears (now (list .entry)) (now (table .entry)) f x r ⌝ }
+// Marks the places in the interval of the slots of all grants.
+fn mark_grants(list: &[u8], records: &[u8], table: &[u8], interval: u16, taken: &mut [u8])
+    requires { ⌜ Indexed (flowsOf (now list)) 0 (now records) ⌝ }
+    requires { ⌜ (0 < interval) × (interval ≤ 8 * length (now taken)) ⌝ }
+    requires { ⌜ Unmarked (now taken) ⌝ }
+    ensures { λ _. ⌜ Overlaid (flowsOf (now (list .entry))) (grantsIn (now (table .entry))) (count (now (table .entry))) interval (now (taken .exit)) ⌝ }
 {
-    let behind = x + occupies(f) as u64;
-    let i = grants_before(table, behind);
-    if i == 0 {
-        return 0;
+    for i in 0..tables::count(table) {
+        let g = tables::grant_at(table, i);
+        let n = slots_of(list, records, g);
+        mark_slots(taken, interval, g.start, n);
     }
-    let end = end_of(list, records, tables::grant_at(table, i - 1));
-    if end <= x {
-        return 0;
-    }
-    end - x
 }
 
-// How many offsets to move on from `offset`, at which the new flow ends inside its interval: 0 where it fits at every one of its grants.
-fn moves(list: &[u8], records: &[u8], table: &[u8], f: Flow, cycle: u64, offset: u64) -> u64
-    requires { ⌜ Joins (now list) (now table) f × Indexed (flowsOf (now list)) 0 (now records) ⌝ }
-    requires { ⌜ (cycle ≡ cycleOf (now table)) × (offset + occupies f ≤ f .interval) ⌝ }
-    ensures { λ r. ⌜ Moves (now (list .entry)) (now (table .entry)) f offset r ⌝ }
+// Where a run of free places that starts at `offset` starts after place p: behind it, if it is taken.
+fn run_start(taken: &[u8], offset: u16, p: u16) -> u16
+    requires { ⌜ p + 1 < 65536 ⌝ }
+    ensures { λ r. ⌜ r ≡ cond (marked (now (taken .entry)) p) (p + 1) offset ⌝ }
 {
-    let mut x = offset;
-    while x < cycle {
-        let d = clash(list, records, table, f, x);
-        if d != 0 {
-            return d;
+    if marked(taken, p) { p + 1 } else { offset }
+}
+
+// The first place of the interval at which `size` places in a row are free, if there is one.
+fn first_run(taken: &[u8], size: u16, interval: u16) -> First
+    requires { ⌜ 0 < size ⌝ }
+    ensures { λ r. ⌜ r ≡ firstOf (firstRun (now (taken .entry)) size interval) ⌝ }
+{
+    let mut offset: u16 = 0;
+    for p in 0..interval {
+        offset = run_start(taken, offset, p);
+        if p + 1 - offset == size {
+            return First::At(offset as u64);
         }
-        x += f.interval as u64;
     }
-    0
+    First::Nowhere
 }
 
 // The smallest offset at which the new flow fits, if there is one.
@@ -76,16 +105,7 @@ pub(crate) fn first_offset(list: &[u8], table: &[u8], f: Flow) -> First
 {
     let mut records = [0u8; NUMBERS];
     index(list, &mut records);
-    let cycle = tables::cycle(table) as u64;
-    let size = occupies(f) as u64;
-    let interval = f.interval as u64;
-    let mut offset: u64 = 0;
-    while offset + size <= interval {
-        let d = moves(list, &records, table, f, cycle, offset);
-        if d == 0 {
-            return First::At(offset);
-        }
-        offset += d;
-    }
-    First::Nowhere
+    let mut taken = [0u8; BYTES];
+    mark_grants(list, &records, table, f.interval, &mut taken);
+    first_run(&taken, occupies(f), f.interval)
 }

@@ -1,5 +1,5 @@
 -- The smallest number that passes a test. Assumes nothing.
-use mathlib.Core.Path.{_≡_, sym, ap, _∙_}
+use mathlib.Core.Path.{_≡_, refl, sym, ap, _∙_}
 use mathlib.Core.Bool.{Bool, true, false}
 use mathlib.Core.Logic.{_↔_}
 use mathlib.Core.Option.{none, some}
@@ -65,3 +65,9 @@ module _ (ok : ℕ → Bool) where
     λ e j l. all-fail 0 n e j (omega arith) (omega arith),
     λ h. let k : n - n ≡ 0 = omega arith in skip n n (omega arith) h ∙ rw k,
   )
+
+-- two tests that say the same have the same smallest number
+pub smallest-same : (p q : ℕ → Bool) (o n : ℕ) → ((j : ℕ) → p j ≡ q j) → smallest p o n ≡ smallest q o n
+unfolding smallest
+smallest-same p q o zero h = refl
+smallest-same p q o (suc n) h = rw (h o, smallest-same p q (suc o) n h)

@@ -1,18 +1,19 @@
 -- What the quick ways of tests 5 and 6 note of the records before tells of them. Assumes nothing.
 use mathlib.Core.Path.{_≡_, refl, sym, subst, _∙_}
-use mathlib.Core.Bool.{true, not}
+use mathlib.Core.Bool.{true, false, not}
 use mathlib.Core.List.{List}
-use Prim.Native.Nat.{ℕ, _+_, _/_, _%_, _^_, _≤_, _<_, max, min}
+use Prim.Native.Nat.{ℕ, _+_, _≤_, _<_, max, min}
 use native.Mathlib.Omega.{arith}
 use native.Mathlib.Nat.{mod-self}
 use native.Mathlib.Numerals.{add-one}
 use lib.Dec.{eqb}
 use lib.ListN.{length, getD, set, length-set}
 use lib.Seq.{getD-set-same, getD-set-other}
-use borrow.Author.Tests.{eq-eqb, ne-eqb}
+use borrow.Author.Tests.{eq-eqb, ne-eqb, eqb-true, eqb-false}
 use Rattle.logic.specs.Lists.{All}
 use Rattle.logic.proofs.Tests.{by-eq}
 use Rattle.logic.proofs.Members.{all-imp, all-every}
+use Rattle.marks.specs.Marks.{bit, marked, Marks}
 use Rattle.flows.specs.declared.flow.Flow.{Flow}
 use Rattle.flows.specs.Flows.{noFlow}
 use Rattle.refusals.proofs.Walks.{before}
@@ -20,8 +21,7 @@ use Rattle.lists.specs.Lists.{count, flowAt, flowsOf}
 use Rattle.lists.specs.Facts.{related}
 use Rattle.lists.proofs.Records.{flow-is}
 use Rattle.pairing.specs.declared.pairs.Pair.the-variants.{Number, Interval}
-use Rattle.pairing.specs.Parts.{agreesWith, OneOf, Chain, Kept, bit, Noted}
-use Rattle.pairing.proofs.Bits.{bit-set, bit-other}
+use Rattle.pairing.specs.Parts.{agreesWith, OneOf, Chain, Kept, Noted}
 
 -- what is noted of the records before record i and of it is noted of those before the next
 pub noted-next : (P : Flow → Type 0) (l : List ℕ) (i : ℕ) (f : Flow) → i < count l → f ≡ flowAt l i → All P (before (flowsOf l) noFlow i) → P f → All P (before (flowsOf l) noFlow (i + 1))
@@ -83,27 +83,15 @@ module _ (fs : List Flow) (xs : List ℕ) (k : ℕ) (f : Flow) (ys : List ℕ) (
 
 -- ---- the numbers that are noted
 
--- a number whose bit was 0 is noted by adding the bit's weight
-pub noted-more : (xs : List ℕ) (x : ℕ) → x / 8 < length xs → bit xs x ≡ 0 → Noted xs x (set xs (x / 8) (getD xs (x / 8) 0 + 2 ^ (x % 8)))
-noted-more xs x h z =
+-- a number that was not marked, and is now
+pub noted-more : (xs : List ℕ) (x : ℕ) (ys : List ℕ) → marked xs x ≡ false → Marks xs x ys → marked ys x ≡ true → Noted xs x ys
+noted-more xs x ys z m t =
+    let one = eqb-true (bit ys x) 1 t in
     record {
-      new = z;
-      one = rw same (bit-set n b z);
-      rest = λ y e. by-eq (y / 8) (x / 8)
-          (λ u. by-eq (y % 8) b
-          (λ v. rw (u, v, same) (bit-set n b z))
-          (λ v. rw (u, same) (bit-other n b z (y % 8) v ∙ rw u at e)))
-          (λ u. rw (getD-set-other xs (x / 8) (y / 8) (n + 2 ^ b) 0 u) e);
+      new = let n = eqb-false (bit xs x) 1 z in by-eq (bit xs x) 1 (λ e. absurd (n e)) (λ e. omega arith);
+      one = one;
+      rest = λ y e. by-eq y x (λ u. rw u one) (λ n. m .rest y n ∙ e);
     }
-  where
-    n : ℕ
-    n = getD xs (x / 8) 0
-
-    b : ℕ
-    b = x % 8
-
-    same : getD (set xs (x / 8) (n + 2 ^ b)) (x / 8) 0 ≡ n + 2 ^ b
-    same = getD-set-same xs (x / 8) (n + 2 ^ b) 0 h
 
 -- the numbers of some records are noted
 abbrev pub AllNoted : List Flow → List ℕ → Type 0

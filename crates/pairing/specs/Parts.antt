@@ -2,10 +2,11 @@
 use mathlib.Core.Path.{_≡_}
 use mathlib.Core.Bool.{Bool, true, not}
 use mathlib.Core.List.{List, []}
-use Prim.Native.Nat.{ℕ, _+_, _/_, _%_, _^_, _≤_, _<_}
+use Prim.Native.Nat.{ℕ, _+_, _≤_, _<_}
 use lib.Dec.{eqb}
 use lib.ListN.{length, getD}
 use Rattle.logic.specs.Lists.{every}
+use Rattle.marks.specs.Marks.{bit}
 use Rattle.flows.specs.declared.flow.Flow.{Flow}
 use Rattle.flows.specs.Flows.{noFlow}
 use Rattle.refusals.specs.declared.Refusal.{Refusal}
@@ -65,10 +66,6 @@ pub record Kept (xs : List ℕ) (k x : ℕ) (ys : List ℕ) (n : ℕ) : Type 0 w
   pub chain : Chain ys n
   pub one : OneOf ys n x
   pub rest : (y : ℕ) → OneOf xs k y → OneOf ys n y
-
--- the bit of the number x, eight to a byte
-abbrev pub bit : List ℕ → ℕ → ℕ
-bit bs x = getD bs (x / 8) 0 / 2 ^ (x % 8) % 2
 
 -- the number x was not noted in xs, and in ys it is, with all that was
 pub record Noted (xs : List ℕ) (x : ℕ) (ys : List ℕ) : Type 0 where

@@ -6,6 +6,8 @@ ghost use Rattle.pairing.specs.Parts.{Settled, Noted};
 use crate::pairs::Pair;
 use lists::count;
 use lists::flow_at;
+use marks::mark;
+use marks::marked;
 
 // Bytes for the bits of all numbers, which are below 1,024.
 const BYTES: usize = 128;
@@ -14,17 +16,11 @@ const BYTES: usize = 128;
 fn note(bits: &mut [u8], x: u16) -> bool
     ensures { λ r. ⌜ (r ≡ true → Noted (now (bits .entry)) x (now (bits .exit))) ⌝ }
 {
-    let k = (x / 8) as usize;
-    if bits.len() <= k {
+    if marked(bits, x) {
         return false;
     }
-    let b = x % 8;
-    let byte = bits[k];
-    if (byte >> b) % 2 != 0 {
-        return false;
-    }
-    bits[k] = byte + (1u8 << b);
-    true
+    mark(bits, x);
+    marked(bits, x)
 }
 
 // How many records, from the first on, pass test 5: all that do, unless a number has no bit.

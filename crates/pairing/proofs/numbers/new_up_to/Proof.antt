@@ -7,11 +7,12 @@ use native.Mathlib.Omega.{arith}
 use lib.ListN.{length}
 use borrow.Author.Tests.{not-false}
 use borrow.Author.Needs.{needs}
+use Rattle.marks.specs.Marks.{bit}
 use Rattle.flows.specs.Flows.{noFlow}
 use Rattle.refusals.proofs.Walks.{before}
 use Rattle.lists.specs.Lists.{count, flowsOf}
 use Rattle.pairing.specs.declared.pairs.Pair.the-variants.{Number}
-use Rattle.pairing.specs.Parts.{Settled, bit}
+use Rattle.pairing.specs.Parts.{Settled}
 use Rattle.pairing.proofs.Verdicts.{settled-next}
 use Rattle.pairing.proofs.Seen.{AllNoted, noted-next, all-noted, new-to-all}
 use Rattle.pairing.proofs.numbers.new_up_to.Statement.{statement}

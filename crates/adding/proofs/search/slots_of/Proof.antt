@@ -1,14 +1,13 @@
--- `adding::search::end_of` meets its contract.
+-- `adding::search::slots_of` meets its contract.
 -- Assumes nothing.
 use mathlib.Core.Path.{ap, _∙_}
-use Prim.Native.Nat.{ℕ, _+_}
 use Rattle.lists.specs.Facts.{occupies}
 use Rattle.law.specs.Check.{slots}
 use Rattle.finding.specs.declared.Found.{Found}
 use Rattle.finding.proofs.Records.{found-noted}
 use borrow.Author.Needs.{needs}
-use Rattle.adding.proofs.search.end_of.Statement.{statement}
-use Rattle.adding.proofs.search.end_of.Tie as tie
+use Rattle.adding.proofs.search.slots_of.Statement.{statement}
+use Rattle.adding.proofs.search.slots_of.Tie as tie
 
 record-of-requires : tie.Need-record-of-requires
 record-of-requires c κs = search needs
@@ -19,38 +18,20 @@ count-requires c κs = search needs
 find-requires : tie.Need-find-requires
 find-requires c κs = search needs
 
-cast-result : tie.Need-cast-result
-cast-result c = search needs
-
 occupies-requires : tie.Need-occupies-requires
 occupies-requires c κs = search needs
-
-cast-result-2 : tie.Need-cast-result-2
-cast-result-2 c = search needs
-
-add-result : tie.Need-add-result
-add-result c = search needs
 
 returns : tie.Need-returns
 unfolding slots
 returns c =
-    let f = c .before .before in
+    let f = c .before in
     let n = f .before in
     let r = n .before in
     let s = r .before .before .before in
     let a = s .args in
     let e = found-noted (a .list .now) (a .records .now) (s .pre) _ _ (a .g .flow) (n .count .ensures .0) (r .record-of .ensures) (f .find .result) (f .find .ensures) in
-    ap (λ (x : ℕ). a .g .start + x) (c .occupies .ensures ∙ ap (λ (x : Found). occupies (x .flow)) e)
+    c .occupies .ensures ∙ ap (λ (x : Found). occupies (x .flow)) e
 
-pub end-of-spec : {M : Type 1} → statement M
-end-of-spec =
-    tie.close
-    (tie.spec
-    record-of-requires
-    count-requires
-    find-requires
-    cast-result
-    occupies-requires
-    cast-result-2
-    add-result
-    returns)
+pub slots-of-spec : {M : Type 1} → statement M
+slots-of-spec =
+    tie.close (tie.spec record-of-requires count-requires find-requires occupies-requires returns)
