@@ -44,7 +44,8 @@ first-run-requires : tie.Need-first-run-requires
 unfolding occupies
 first-run-requires c κs =
     let s = c .before .before .before .before .before .before .before .before .before .before .before in
-    omega (arith, c .occupies .ensures, is s .rule .sized)
+    let r = is s .rule in
+    (omega (arith, c .occupies .ensures, r .sized), omega (arith, c .occupies .ensures, r .size-le), r .interval-le)
 
 returns : tie.Need-returns
 returns c =
