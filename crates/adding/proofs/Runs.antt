@@ -42,6 +42,7 @@ module _ (bs : List ℕ) where
     pub run-inside : (o : ℕ) → o + n ≤ i → runAt bs n i o ≡ freeFrom bs o n
     run-inside o h = rw (le-leb (o + n) i h)
 
+    -- one of its places is taken
     run-fails : (o q : ℕ) → o ≤ q → q < o + n → marked bs q ≡ true → runAt bs n i o ≡ false
     run-fails o q a b t = by-lt i (o + n) (run-late o) (λ h. run-inside o h ∙ one-taken o n q a b t)
 
@@ -52,6 +53,7 @@ pub record Run (bs : List ℕ) (n i o p : ℕ) : Type 0 where
   pub first : (j : ℕ) → j < o → runAt bs n i j ≡ false
 
 module _ (bs : List ℕ) (n i : ℕ) where
+  -- no place yet
   pub run-none : Run bs n i 0 0
   run-none = record { low = omega arith; clear = λ q a b. absurd (omega arith); first = λ j a. absurd (omega arith) }
 

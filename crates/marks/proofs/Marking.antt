@@ -41,10 +41,6 @@ marks-run xs x r h few =
     same : getD (set xs (x / 8) (bitOr n (ones (x % 8) r))) (x / 8) 0 ≡ bitOr n (ones (x % 8) r)
     same = getD-set-same xs (x / 8) (bitOr n (ones (x % 8) r)) 0 h
 
--- the byte is not there: nothing is done
-pub marks-none : (xs : List ℕ) (x r : ℕ) → length xs ≤ x / 8 → Marks xs x r xs
-marks-none xs x r h = record { all = λ l. absurd (omega arith); rest = λ y o. refl; beyond = λ l. refl }
-
 -- one number
 pub alike-one : (bs : List ℕ) (x : ℕ) → Alike bs x 1
 alike-one bs x = record { some = omega arith; few = omega arith; same = λ y a b. let e : y ≡ x = omega arith in rw e }

@@ -32,7 +32,7 @@ mark-grants-requires : tie.Need-mark-grants-requires
 mark-grants-requires c κs =
     let x = c .before .before .before in
     let r = is (x .before .before .before .before) .rule in
-    (x .index .ensures refl, ((r .timed, r .interval-le), none-marked 512))
+    (x .index .ensures refl, (omega (arith, r .timed, r .interval-le), none-marked 512))
 
 slice-aggregate-first-run : tie.Need-slice-aggregate-first-run
 slice-aggregate-first-run c = search needs

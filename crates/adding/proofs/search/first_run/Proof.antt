@@ -31,7 +31,7 @@ returns c =
     let l = i .before in
     let s = l .before .before in
     let a = s .args in
-    run-found (a .taken .now) (a .size) (a .interval) (l .loop .offset) (l .loop .p) (l .loop .inv .1) (s .pre .0) (i .loop-test .taken) (c .if1 .taken)
+    run-found (a .taken .now) (a .size) (a .interval) (l .loop .offset) (l .loop .p) (l .loop .inv .1) (s .pre .0) (i .loop-test .taken) (omega (arith, c .if1 .taken))
 
 -- the place that is looked at is one of the interval
 inside : (c : tie.Else1 Inv-loop μ-loop) → let l = c .before .before in let a = l .before .before .args in (l .loop .p < a .interval) × (a .interval ≤ 4096)
