@@ -16,7 +16,7 @@ use Rattle.offsets.specs.Offsets.{grantsFrom, joined}
 use Rattle.offsets.proofs.Joining.{joined-old, joined-new, from-after}
 
 -- the grants behind the first i, whose starts rise from the first on
-pub rising-from : (x : ℕ) (gs : List Grant) (i : ℕ) → Rising gs → (i < length gs → x ≤ getD gs i blank .start) → All (λ g. x ≤ g .start) (drop i gs)
+rising-from : (x : ℕ) (gs : List Grant) (i : ℕ) → Rising gs → (i < length gs → x ≤ getD gs i blank .start) → All (λ g. x ≤ g .start) (drop i gs)
 rising-from x [] zero r h = tt
 rising-from x [] (suc i) r h = tt
 rising-from x (g ∷ []) zero r h = (h (omega arith), tt)

@@ -1,12 +1,12 @@
 -- The intervals of the cycle laid over one another: what is marked slot by slot and grant by grant. Assumes nothing.
-use mathlib.Core.Path.{_≡_, sym, _∙_}
+use mathlib.Core.Path.{_≡_, sym, ap, _∙_}
 use mathlib.Core.Logic.{inl, inr, ⊎-elim}
 use mathlib.Core.List.{List}
-use Prim.Native.Nat.{ℕ, _+_, _/_, _%_, _<_}
+use Prim.Native.Nat.{ℕ, _+_, _-_, _/_, _%_, _≤_, _<_}
 use native.Mathlib.Omega.{arith}
-use native.Mathlib.Nat.{mod-add-mod}
+use native.Mathlib.Nat.{mod-add-mod, mod-eq-of-lt}
 use lib.ListN.{length}
-use Rattle.logic.proofs.Tests.{by-eq}
+use Rattle.logic.proofs.Tests.{by-lt, by-eq}
 use Rattle.marks.specs.Marks.{bit, Marks}
 use Rattle.flows.specs.declared.flow.Flow.{Flow}
 use Rattle.tables.specs.declared.packed.Grant.{Grant}
@@ -14,27 +14,44 @@ use Rattle.law.specs.Check.{slots}
 use Rattle.law.specs.Law.{nth}
 use Rattle.adding.specs.Parts.{Unmarked, Laid, Overlaid}
 
--- the place of the next slot
-pub next-slot : (i a n p r : ℕ) → p ≡ (a + n) % i → r ≡ (p + 1) % i → r ≡ (a + (n + 1)) % i
-next-slot i a n p r e h = let q : a + n + 1 ≡ a + (n + 1) = omega arith in rw (h, e, ← q) (mod-add-mod (a + n) i 1)
+-- the place of a slot d later, before it is brought into the interval again
+place : (i x d p : ℕ) → p ≡ x % i → (x + d) % i ≡ (p + d) % i
+place i x d p e = rw e (sym (mod-add-mod x i d))
+
+-- the place behind r slots more
+pub place-next : (i a n r p q : ℕ) → p ≡ (a + n) % i → q ≡ (p + r) % i → q ≡ (a + (n + r)) % i
+place-next i a n r p q e h = let s : a + n + r ≡ a + (n + r) = omega arith in h ∙ sym (place i (a + n) r p e) ∙ ap (λ (x : ℕ). x % i) s
 
 -- no slot
 pub laid-none : (xs : List ℕ) (i a : ℕ) → Laid xs i a (a + 0) xs
 laid-none xs i a = record { all = λ s g h. absurd (omega arith); old = λ p e. e; only = λ p e. inl e }
 
--- one slot more
-pub laid-next : (xs ys zs : List ℕ) (i a n p : ℕ) → Laid xs i a (a + n) ys → p ≡ (a + n) % i → p / 8 < length ys → Marks ys p zs → Laid xs i a (a + (n + 1)) zs
-laid-next xs ys zs i a n p L here h M =
+-- r slots more, no further than the interval's end
+pub laid-next : (xs ys zs : List ℕ) (i a n r p : ℕ) → Laid xs i a (a + n) ys → p ≡ (a + n) % i → p + r ≤ i → p / 8 < length ys → Marks ys p r zs → Laid xs i a (a + (n + r)) zs
+laid-next xs ys zs i a n r p L here ends h M =
     record {
-      all = λ s g k. by-eq s (a + n) (λ e. rw (e, ← here) (M .one h)) (λ o. stays (s % i) (L .all s g (omega arith)));
+      all = λ s g k. by-lt s (a + n) (λ l. stays (s % i) (L .all s g l))
+          (λ l.
+          let e : a + n + (s - (a + n)) ≡ s = omega arith in
+          rw (ap (λ (x : ℕ). x % i) (sym e) ∙ at (s - (a + n)) (omega arith)) (M .all h (p + (s - (a + n))) (omega arith) (omega arith)));
       old = λ q e. stays q (L .old q e);
-      only = λ q e. by-eq q p
-          (λ u. inr (a + n, omega arith, omega arith, sym here ∙ sym u))
+      only = λ q e. by-run q
+          (λ u v.
+          let w : p + (q - p) ≡ q = omega arith in
+          inr (a + n + (q - p), omega arith, omega arith, at (q - p) (omega arith) ∙ w))
           (λ o. ⊎-elim (λ v. inl v) (λ v. inr (v .0, v .1, omega (arith, v .2), v .3)) (L .only q (sym (M .rest q o) ∙ e)));
     }
   where
+    -- the place of the slot d later
+    at : (d : ℕ) → d < r → (a + n + d) % i ≡ p + d
+    at d k = place i (a + n) d p here ∙ mod-eq-of-lt (omega arith)
+
+    -- a place of the run, or another
+    by-run : {P : Type 0} (q : ℕ) → (p ≤ q → q < p + r → P) → (((p ≤ q) × (q < p + r) → ⊥) → P) → P
+    by-run q f g = by-lt q p (λ u. g (λ w. omega (arith, w))) (λ u. by-lt q (p + r) (λ v. f u v) (λ v. g (λ w. omega (arith, w))))
+
     stays : (q : ℕ) → bit ys q ≡ 1 → bit zs q ≡ 1
-    stays q e = by-eq q p (λ u. rw u (M .one h)) (λ o. M .rest q o ∙ e)
+    stays q e = by-run q (λ u v. M .all h q u v) (λ o. M .rest q o ∙ e)
 
 module _ (fs : List Flow) (gs : List Grant) (i : ℕ) where
   -- no grant

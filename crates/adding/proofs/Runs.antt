@@ -2,11 +2,11 @@
 use mathlib.Core.Path.{_≡_, refl, sym, ap, _∙_}
 use mathlib.Core.Bool.{true, false, cond, not, and-false}
 use mathlib.Core.List.{List}
-use Prim.Native.Nat.{ℕ, zero, suc, _+_, _-_, _≤_, _<_}
+use Prim.Native.Nat.{ℕ, zero, suc, _+_, _≤_, _<_}
 use native.Mathlib.Omega.{arith}
 use borrow.Author.Tests.{le-leb, lt-leb}
 use Rattle.logic.proofs.Tests.{by-test, by-lt, by-eq, true-not-false}
-use Rattle.marks.specs.Marks.{marked}
+use Rattle.marks.specs.Marks.{marked, Alike}
 use Rattle.offsets.proofs.Smallest.{smallest-exactly, none-exactly}
 use Rattle.adding.specs.declared.search.First.the-variants.{At, Nowhere}
 use Rattle.adding.specs.Parts.{freeFrom, runAt, firstRun, firstOf}
@@ -42,61 +42,53 @@ module _ (bs : List ℕ) where
     pub run-inside : (o : ℕ) → o + n ≤ i → runAt bs n i o ≡ freeFrom bs o n
     run-inside o h = rw (le-leb (o + n) i h)
 
+    -- one of its places is taken
     run-fails : (o q : ℕ) → o ≤ q → q < o + n → marked bs q ≡ true → runAt bs n i o ≡ false
     run-fails o q a b t = by-lt i (o + n) (run-late o) (λ h. run-inside o h ∙ one-taken o n q a b t)
 
--- the run that starts at o has grown up to p, too short yet, and none starts before o
+-- the places from o up to p are free, and no run starts before o
 pub record Run (bs : List ℕ) (n i o p : ℕ) : Type 0 where
   pub low : o ≤ p
-  pub short : p < o + n
   pub clear : (q : ℕ) → o ≤ q → q < p → marked bs q ≡ false
   pub first : (j : ℕ) → j < o → runAt bs n i j ≡ false
 
 module _ (bs : List ℕ) (n i : ℕ) where
-  pub run-none : 0 < n → Run bs n i 0 0
-  run-none h = record { low = omega arith; short = omega arith; clear = λ q a b. absurd (omega arith); first = λ j a. absurd (omega arith) }
+  -- no place yet
+  pub run-none : Run bs n i 0 0
+  run-none = record { low = omega arith; clear = λ q a b. absurd (omega arith); first = λ j a. absurd (omega arith) }
 
   module _ (o p : ℕ) (R : Run bs n i o p) where
-    -- no place is left
-    pub run-end : i ≤ p → Nowhere ≡ firstOf (firstRun bs n i)
-    run-end h =
-        let e = none-exactly (runAt bs n i) i .1 (λ j k. by-lt j o (R .first j) (λ l. run-late bs n i j (omega (arith, R .short)))) in
+    -- the run is long enough
+    pub run-found : 0 < n → o + n ≤ i → o + n ≤ p → At o ≡ firstOf (firstRun bs n i)
+    run-found z h k =
+        let free = all-free bs o n (λ q a b. R .clear q a (omega arith)) in
+        let e = smallest-exactly (runAt bs n i) i o .1 (omega arith, run-inside bs n i o h ∙ free, R .first) in
         ap firstOf (sym e)
 
-    module _ (r : ℕ) (e : r ≡ cond (marked bs p) (p + 1) o) where
-      -- one place more, where the run may be long enough
-      grown : (r ≤ p + 1) × (p + 1 ≤ r + n) × ((q : ℕ) → r ≤ q → q < p + 1 → marked bs q ≡ false) × ((j : ℕ) → j < r → runAt bs n i j ≡ false)
-      grown =
-          by-test (marked bs p)
-          (λ t.
-          let here : r ≡ p + 1 = e ∙ rw t in
-          (omega arith, omega arith, λ q a b. absurd (omega arith), λ j a. by-lt j o (R .first j) (λ l. run-fails bs n i j p (omega arith) (omega (arith, R .short)) t)))
-          (λ t.
-          let same : r ≡ o = e ∙ rw t in (
-            omega (arith, R .low),
-            omega (arith, R .short),
-            λ q a b. by-eq q p (λ u. rw u t) (λ u. R .clear q (omega arith) (omega arith)),
-            λ j a. R .first j (omega arith),
-          ))
+    -- none that ends in the interval is left
+    pub run-end : i < o + n → Nowhere ≡ firstOf (firstRun bs n i)
+    run-end h =
+        let e = none-exactly (runAt bs n i) i .1 (λ j k. by-lt j o (R .first j) (λ l. run-late bs n i j (omega arith))) in
+        ap firstOf (sym e)
 
-      pub run-low : r ≤ p + 1
-      run-low = grown .0
-
-      -- it is not
-      pub run-next : (p + 1 - r ≡ n → ⊥) → Run bs n i r (p + 1)
-      run-next k =
-          let g = grown in
-          record {
-            low = g .0;
-            short = by-lt (p + 1) (r + n) (λ h. h) (λ h. absurd (k (omega (arith, g .0, g .1))));
-            clear = g .2;
-            first = g .3;
-          }
-
-      -- it is
-      pub run-found : p < i → 0 < n → p + 1 - r ≡ n → At r ≡ firstOf (firstRun bs n i)
-      run-found h z k =
-          let g = grown in
-          let free = all-free bs r n (λ q a b. g .2 q a (omega arith)) in
-          let e = smallest-exactly (runAt bs n i) i r .1 (omega arith, run-inside bs n i r (omega arith) ∙ free, g .3) in
-          ap firstOf (sym e)
+    -- m places more, all free or all taken
+    pub run-next : (m r : ℕ) → 0 < n → p < o + n → Alike bs p m → r ≡ cond (marked bs p) (p + m) o → Run bs n i r (p + m)
+    run-next m r z short A e =
+        by-test (marked bs p)
+        (λ t.
+        let behind : r ≡ p + m = e ∙ rw t in
+        record {
+          low = omega arith;
+          clear = λ q a b. absurd (omega arith);
+          first = λ j a. by-lt j o (R .first j) (λ l. by-lt p j (λ k. run-fails bs n i j j (omega arith) (omega arith) (alike j (omega arith) (omega arith) ∙ t)) (λ k. run-fails bs n i j p k (omega arith) t));
+        })
+        (λ t.
+        let same : r ≡ o = e ∙ rw t in
+        record {
+          low = omega (arith, R .low);
+          clear = λ q a b. by-lt q p (R .clear q (omega arith)) (λ l. alike q l b ∙ t);
+          first = λ j a. R .first j (omega arith);
+        })
+      where
+        alike : (q : ℕ) → p ≤ q → q < p + m → marked bs q ≡ marked bs p
+        alike q a b = rw (A .same q a b)

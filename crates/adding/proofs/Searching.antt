@@ -44,6 +44,7 @@ module _ (l t : List ℕ) (f : Flow) (K : Known l t f) where
   abbrev many : ℕ
   many = grantsOf (cycle fs) f
 
+  -- the new grant k
   from-at : (x n k : ℕ) → k < n → getD (grantsFrom f x n) k blank ≡ newGrant f (x + k * f .interval)
   unfolding grantsFrom
   from-at x zero k h = absurd (omega arith)
@@ -97,7 +98,7 @@ module _ (l t : List ℕ) (f : Flow) (K : Known l t f) where
           let m = O .all j s (omega (arith, length-grants t)) (c, d) in
           true-not-false (sym clear ∙ one-taken bs o (occupies f) q (omega arith) (omega arith) (ap (λ (y : ℕ). marked bs y) (sym place) ∙ eq-eqb _ 1 m))
 
-      -- a grant has a slot
+      -- a grant of the new flow has a slot
       taken : 0 < occupies f
       unfolding occupies
       taken = K .rule .sized
@@ -114,6 +115,7 @@ module _ (l t : List ℕ) (f : Flow) (K : Known l t f) where
           (λ b. rw (le-leb (g .start + slots fs g) x b) (or-true (leb (x + occupies f) (g .start)))))
           (λ a. rw (le-leb (x + occupies f) (g .start) a))
 
+      -- and so grant k is free
       free-one : (k : ℕ) → k < many → free fs gs f (newGrant f (o + k * f .interval)) ≡ true
       unfolding free
       free-one k h =
@@ -121,6 +123,7 @@ module _ (l t : List ℕ) (f : Flow) (K : Known l t f) where
           let inside : x + occupies f ≤ cycle fs = omega (arith, K .fills, mul-le-mul-right (f .interval) h) in
           rw (all-every (apart fs f (newGrant f x)) gs (getD-all (λ g. apart fs f (newGrant f x) g ≡ true) blank gs (clear-one k)), le-leb (x + occupies f) (cycle fs) inside)
 
+      -- all of them are
       clears : fits fs gs f o ≡ true
       unfolding fits newGrants
       clears =

@@ -2,7 +2,7 @@
 // places is taken.
 ghost use mathlib.Core.Path.{_≡_};
 ghost use mathlib.Core.Bool.{cond};
-ghost use Prim.Native.Nat.{_+_, _*_, _%_, _≤_, _<_};
+ghost use Prim.Native.Nat.{_+_, _-_, _*_, _%_, _≤_, _<_, min};
 ghost use lib.ListN.{length};
 ghost use Rattle.lists.specs.Lists.{flowsOf};
 ghost use Rattle.tables.specs.Tables.{count, grantsOf as grantsIn};
@@ -17,7 +17,8 @@ use finding::find;
 use finding::index;
 use finding::record_of;
 use flows::Flow;
-use marks::mark;
+use marks::alike;
+use marks::mark_run;
 use marks::marked;
 use tables::Grant;
 
@@ -30,12 +31,21 @@ pub enum First {
     Nowhere,
 }
 
-// The place after p in an interval.
-fn next_place(p: u16, interval: u16) -> u16
+// How many of so many places from p on stand before the interval's end.
+fn before_end(p: u16, interval: u16, left: u16) -> u16
     requires { ⌜ p < interval ⌝ }
-    ensures { λ r. ⌜ r ≡ (p + 1) % interval ⌝ }
+    ensures { λ r. ⌜ r ≡ min left (interval - p) ⌝ }
 {
-    let next = p + 1;
+    let room = interval - p;
+    if left < room { left } else { room }
+}
+
+// The place n after p, where that is no more than the interval's end, behind which its first follows.
+fn place_after(p: u16, n: u16, interval: u16) -> u16
+    requires { ⌜ (0 < interval) × (p + n ≤ interval) ⌝ }
+    ensures { λ r. ⌜ r ≡ (p + n) % interval ⌝ }
+{
+    let next = p + n;
     if next == interval { 0 } else { next }
 }
 
@@ -45,9 +55,11 @@ fn mark_slots(taken: &mut [u8], interval: u16, start: u16, slots: u16)
     ensures { λ _. ⌜ Laid (now (taken .entry)) interval start (start + slots) (now (taken .exit)) ⌝ }
 {
     let mut p = start % interval;
-    for _ in 0..slots {
-        mark(taken, p);
-        p = next_place(p, interval);
+    let mut left = slots;
+    while 0 < left {
+        let n = mark_run(taken, p, before_end(p, interval, left));
+        p = place_after(p, n, interval);
+        left -= n;
     }
 }
 
@@ -75,25 +87,29 @@ fn mark_grants(list: &[u8], records: &[u8], table: &[u8], interval: u16, taken: 
     }
 }
 
-// Where a run of free places that starts at `offset` starts after place p: behind it, if it is taken.
-fn run_start(taken: &[u8], offset: u16, p: u16) -> u16
-    requires { ⌜ p + 1 < 65536 ⌝ }
-    ensures { λ r. ⌜ r ≡ cond (marked (now (taken .entry)) p) (p + 1) offset ⌝ }
+// Where a run of free places from `offset` up to p starts with n places more that are all free or all taken: behind them, if they are
+// taken.
+fn run_start(taken: &[u8], offset: u16, p: u16, n: u16) -> u16
+    requires { ⌜ p + n < 65536 ⌝ }
+    ensures { λ r. ⌜ r ≡ cond (marked (now (taken .entry)) p) (p + n) offset ⌝ }
 {
-    if marked(taken, p) { p + 1 } else { offset }
+    if marked(taken, p) { p + n } else { offset }
 }
 
 // The first place of the interval at which `size` places in a row are free, if there is one.
 fn first_run(taken: &[u8], size: u16, interval: u16) -> First
-    requires { ⌜ 0 < size ⌝ }
+    requires { ⌜ (0 < size) × (size ≤ 4096) × (interval ≤ 4096) ⌝ }
     ensures { λ r. ⌜ r ≡ firstOf (firstRun (now (taken .entry)) size interval) ⌝ }
 {
     let mut offset: u16 = 0;
-    for p in 0..interval {
-        offset = run_start(taken, offset, p);
-        if p + 1 - offset == size {
+    let mut p: u16 = 0;
+    while offset + size <= interval {
+        if offset + size <= p {
             return First::At(offset as u64);
         }
+        let n = alike(taken, p);
+        offset = run_start(taken, offset, p, n);
+        p += n;
     }
     First::Nowhere
 }

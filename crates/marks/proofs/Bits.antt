@@ -1,45 +1,68 @@
--- A bit of a number: what adding a power of two does whose bit is 0. Assumes nothing.
-use mathlib.Core.Path.{_≡_, sym, ap, _∙_}
-use Prim.Native.Nat.{ℕ, suc, _+_, _*_, _/_, _%_, _^_, _<_, _-_}
+-- The bits of a byte: those of a run of ones, and of two bytes joined. Assumes nothing.
+use mathlib.Core.Path.{_≡_, refl, ap, _∙_}
+use mathlib.Core.Bool.{Bool, true, cond, _&&_}
+use Prim.Native.Nat.{ℕ, zero, suc, _+_, _*_, _/_, _%_, _^_, _<_, _≤_, _-_}
 use native.Mathlib.Omega.{arith}
-use native.Mathlib.Nat.{add-div-right, add-mul-div-left, div-eq-of-lt, mod-lt, one-mul, pow-suc}
-use lib.Dec.{lit<}
-use lib.Pow.{pow-pos, pow-add, split, shl-exact, shr-shr}
-use Rattle.logic.proofs.Tests.{by-order}
+use lib.Bits.{bitOr, or-shr, or-mod, or-zero-l, or-zero-r, or-self}
+use lib.Dec.{leb, ltb, eqb}
+use borrow.Author.Tests.{eqb-true, leb-true, ltb-true, lt-ltb, le-leb, le-ltb, lt-leb}
+use Rattle.logic.proofs.Tests.{by-lt, by-eq, and-both}
 
--- the weight of a bit of a byte
-pub weight : (b : ℕ) → b < 8 → 1 * 2 ^ b % 256 ≡ 2 ^ b
-weight b h = shl-exact {a = 1} 1 b 8 (lit< tt) (omega arith) ∙ one-mul (2 ^ b)
+-- every number below n passes
+unfoldable pub below : ℕ → (ℕ → Bool) → Bool
+below zero ok = true
+below (suc n) ok = ok n && below n ok
 
-module _ (n b : ℕ) (z : n / 2 ^ b % 2 ≡ 0) where
-  -- that bit is 1 then
-  pub bit-set : (n + 2 ^ b) / 2 ^ b % 2 ≡ 1
-  bit-set = rw (add-div-right n (pow-pos b)) (omega arith)
+pub below-each : (n : ℕ) (ok : ℕ → Bool) → below n ok ≡ true → (k : ℕ) → k < n → ok k ≡ true
+unfolding below
+below-each zero ok e k h = absurd (omega arith)
+below-each (suc n) ok e k h =
+    let both = and-both (ok n) (below n ok) e in
+    by-eq k n (λ u. rw u (both .0)) (λ u. below-each n ok (both .1) k (omega arith))
 
-  -- what stands above it stays
-  above : (n + 2 ^ b) / 2 ^ (b + 1) ≡ n / 2 ^ (b + 1)
-  above = sym (shr-shr (n + 2 ^ b) b 1) ∙ rw (add-div-right n (pow-pos b)) (let e : (n / 2 ^ b + 1) / 2 ≡ n / 2 ^ b / 2 = omega arith in e) ∙ shr-shr n b 1
+-- m ones from bit b on, as 16 bits
+abbrev pub ones : ℕ → ℕ → ℕ
+ones b m = (1 * 2 ^ m % 65536 - 1) * 2 ^ b % 65536
 
-  above-all : (d : ℕ) → (n + 2 ^ b) / 2 ^ (b + 1 + d) ≡ n / 2 ^ (b + 1 + d)
-  above-all d = sym (shr-shr (n + 2 ^ b) (b + 1) d) ∙ ap (λ (m : ℕ). m / 2 ^ d) above ∙ shr-shr n (b + 1) d
+-- from 2 ^ m one can be taken
+pub ones-some : (m : ℕ) → m ≤ 8 → 1 ≤ 1 * 2 ^ m % 65536
+unfolding below
+ones-some m h = leb-true 1 _ (below-each 9 (λ m. leb 1 (1 * 2 ^ m % 65536)) refl m (omega arith))
 
-  -- and what stands below it
-  below-all : (c d : ℕ) → c + suc d ≡ b → (n + 2 ^ b) / 2 ^ c % 2 ≡ n / 2 ^ c % 2
-  below-all c d e =
-      let p : 2 ^ b ≡ 2 ^ c * (2 ^ d * 2) = ap (λ (k : ℕ). 2 ^ k) (sym e) ∙ pow-add 2 c (suc d) ∙ ap (λ (m : ℕ). 2 ^ c * m) (pow-suc 2 d) in
-      rw p (rw (add-mul-div-left n (2 ^ d * 2) (pow-pos c)) (omega arith))
+-- they are a byte
+pub ones-byte : (b m : ℕ) → b < 8 → m ≤ 8 - b → ones b m < 256
+unfolding below
+ones-byte b m h k =
+    ltb-true (ones b m) 256
+    (below-each (9 - b) (λ m. ltb (ones b m) 256) (below-each 8 (λ b. below (9 - b) (λ m. ltb (ones b m) 256)) refl b h) m (omega arith))
 
-  pub bit-other : (c : ℕ) → (c ≡ b → ⊥) → (n + 2 ^ b) / 2 ^ c % 2 ≡ n / 2 ^ c % 2
-  bit-other c o =
-      by-order c b
-      (λ h. below-all c (b - c - 1) (omega arith))
-      (λ e. absurd (o e))
-      (λ h. let e : b + 1 + (c - b - 1) ≡ c = omega arith in rw (sym e) (ap (λ (m : ℕ). m % 2) (above-all (c - b - 1))))
+-- and these are its bits
+pub ones-bit : (b m k : ℕ) → b < 8 → m ≤ 8 - b → k < 8 → ones b m / 2 ^ k % 2 ≡ cond (leb b k && ltb k (b + m)) 1 0
+unfolding below
+ones-bit b m k h l j =
+    let ok : ℕ → ℕ → ℕ → Bool = λ b m k. eqb (ones b m / 2 ^ k % 2) (cond (leb b k && ltb k (b + m)) 1 0) in
+    eqb-true _ _ (below-each 8 (ok b m) (below-each (9 - b) (λ m. below 8 (ok b m)) (below-each 8 (λ b. below (9 - b) (λ m. below 8 (ok b m))) refl b h) m (omega arith)) k j)
 
-  -- the sum has no more bits
-  pub bit-fits : (w : ℕ) → b < w → n < 2 ^ w → n + 2 ^ b < 2 ^ w
-  bit-fits w h l =
-      let e : b + 1 + (w - b - 1) ≡ w = omega arith in
-      let q : (n + 2 ^ b) / 2 ^ w ≡ 0 = rw e at (above-all (w - b - 1)) ∙ div-eq-of-lt l in
-      let s = rw q at (split (n + 2 ^ b) w) in
-      omega (arith, mod-lt (n + 2 ^ b) (pow-pos w))
+-- a bit of two bytes joined
+joined : (a b k : ℕ) → bitOr a b / 2 ^ k % 2 ≡ bitOr (a / 2 ^ k % 2) (b / 2 ^ k % 2)
+joined a b k = ap (λ (n : ℕ). n % 2) (or-shr a b k) ∙ or-mod (a / 2 ^ k) (b / 2 ^ k) 1
+
+-- no number of a range
+outside : (a k e : ℕ) → ((a ≤ k) × (k < e) → ⊥) → _≡_ {A = ℕ} (cond (leb a k && ltb k e) 1 0) 0
+outside a k e o =
+    by-lt k a (λ h. rw (lt-leb a k h)) (λ h. let l : e ≤ k = by-lt k e (λ j. absurd (o (h, j))) (λ j. j) in rw (le-leb a k h, le-ltb k e l))
+
+module _ (n b m k : ℕ) (h : b < 8) (l : m ≤ 8 - b) (j : k < 8) where
+  -- one of the run
+  pub bit-of-run : b ≤ k → k < b + m → bitOr n (ones b m) / 2 ^ k % 2 ≡ 1
+  bit-of-run p q =
+      let one : ones b m / 2 ^ k % 2 ≡ 1 = ones-bit b m k h l j ∙ rw (le-leb b k p, lt-ltb k (b + m) q) in
+      joined n (ones b m) k
+      ∙ rw one
+      (by-eq (n / 2 ^ k % 2) 1 (λ e. rw e (or-self 1)) (λ e. let z : n / 2 ^ k % 2 ≡ 0 = omega arith in rw z (or-zero-l 1)))
+
+  -- any other
+  pub bit-of-rest : ((b ≤ k) × (k < b + m) → ⊥) → bitOr n (ones b m) / 2 ^ k % 2 ≡ n / 2 ^ k % 2
+  bit-of-rest o =
+      let none : ones b m / 2 ^ k % 2 ≡ 0 = ones-bit b m k h l j ∙ outside b k (b + m) o in
+      joined n (ones b m) k ∙ rw none (or-zero-r (n / 2 ^ k % 2))

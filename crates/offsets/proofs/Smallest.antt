@@ -10,7 +10,7 @@ use Rattle.offsets.specs.Offsets.{smallest}
 
 module _ (ok : ℕ → Bool) where
   -- numbers that fail are passed over
-  pub smallest-skip : (o d n : ℕ) → d ≤ n → ((j : ℕ) → j < d → ok (o + j) ≡ false) → smallest ok o n ≡ smallest ok (o + d) (n - d)
+  smallest-skip : (o d n : ℕ) → d ≤ n → ((j : ℕ) → j < d → ok (o + j) ≡ false) → smallest ok o n ≡ smallest ok (o + d) (n - d)
   unfolding smallest
   smallest-skip o zero n h fails = let e : o + 0 ≡ o = omega arith in let k : n - 0 ≡ n = omega arith in rw (e, k)
   smallest-skip o (suc d) zero h fails = absurd (omega arith)

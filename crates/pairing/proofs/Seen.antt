@@ -84,13 +84,13 @@ module _ (fs : List Flow) (xs : List ℕ) (k : ℕ) (f : Flow) (ys : List ℕ) (
 -- ---- the numbers that are noted
 
 -- a number that was not marked, and is now
-pub noted-more : (xs : List ℕ) (x : ℕ) (ys : List ℕ) → marked xs x ≡ false → Marks xs x ys → marked ys x ≡ true → Noted xs x ys
+pub noted-more : (xs : List ℕ) (x : ℕ) (ys : List ℕ) → marked xs x ≡ false → Marks xs x 1 ys → marked ys x ≡ true → Noted xs x ys
 noted-more xs x ys z m t =
     let one = eqb-true (bit ys x) 1 t in
     record {
       new = let n = eqb-false (bit xs x) 1 z in by-eq (bit xs x) 1 (λ e. absurd (n e)) (λ e. omega arith);
       one = one;
-      rest = λ y e. by-eq y x (λ u. rw u one) (λ n. m .rest y n ∙ e);
+      rest = λ y e. by-eq y x (λ u. rw u one) (λ n. m .rest y (λ w. n (omega (arith, w))) ∙ e);
     }
 
 -- the numbers of some records are noted

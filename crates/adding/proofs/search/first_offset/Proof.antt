@@ -32,7 +32,7 @@ mark-grants-requires : tie.Need-mark-grants-requires
 mark-grants-requires c κs =
     let x = c .before .before .before in
     let r = is (x .before .before .before .before) .rule in
-    (x .index .ensures refl, ((r .timed, r .interval-le), none-marked 512))
+    (x .index .ensures refl, (omega (arith, r .timed, r .interval-le), none-marked 512))
 
 slice-aggregate-first-run : tie.Need-slice-aggregate-first-run
 slice-aggregate-first-run c = search needs
@@ -44,7 +44,8 @@ first-run-requires : tie.Need-first-run-requires
 unfolding occupies
 first-run-requires c κs =
     let s = c .before .before .before .before .before .before .before .before .before .before .before in
-    omega (arith, c .occupies .ensures, is s .rule .sized)
+    let r = is s .rule in
+    (omega (arith, c .occupies .ensures, r .sized), omega (arith, c .occupies .ensures, r .size-le), r .interval-le)
 
 returns : tie.Need-returns
 returns c =
