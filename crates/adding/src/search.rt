@@ -4,7 +4,7 @@ ghost use mathlib.Core.Path.{_≡_};
 ghost use mathlib.Core.Bool.{cond};
 ghost use Prim.Native.Nat.{_+_, _-_, _*_, _%_, _≤_, _<_, min};
 ghost use lib.ListN.{length};
-ghost use Rattle.lists.specs.Lists.{flowsOf};
+ghost use Rattle.lists.specs.Lists.{count as flowCount, flowsOf};
 ghost use Rattle.tables.specs.Tables.{count, grantsOf as grantsIn};
 ghost use Rattle.law.specs.Check.{slots};
 ghost use Rattle.finding.specs.Parts.{Indexed};
@@ -63,13 +63,12 @@ fn mark_slots(taken: &mut [u8], interval: u16, start: u16, slots: u16)
     }
 }
 
-// The slots of a grant of the table.
-fn slots_of(list: &[u8], records: &[u8], g: Grant) -> u16
-    requires { ⌜ Indexed (flowsOf (now list)) 0 (now records) ⌝ }
+// The slots of a grant of the table, whose flow is one of the list's n.
+fn slots_of(list: &[u8], n: usize, records: &[u8], g: Grant) -> u16
+    requires { ⌜ Indexed (flowsOf (now list)) 0 (now records) × (n ≡ flowCount (now list)) ⌝ }
     ensures { λ r. ⌜ r ≡ slots (flowsOf (now (list .entry))) g ⌝ }
 {
-    let k = record_of(records, g.flow);
-    let found = find(list, lists::count(list), k, g.flow);
+    let found = find(list, n, record_of(records, g.flow), g.flow);
     occupies(found.flow)
 }
 
@@ -80,10 +79,10 @@ fn mark_grants(list: &[u8], records: &[u8], table: &[u8], interval: u16, taken: 
     requires { ⌜ Unmarked (now taken) ⌝ }
     ensures { λ _. ⌜ Overlaid (flowsOf (now (list .entry))) (grantsIn (now (table .entry))) (count (now (table .entry))) interval (now (taken .exit)) ⌝ }
 {
+    let flows = lists::count(list);
     for i in 0..tables::count(table) {
         let g = tables::grant_at(table, i);
-        let n = slots_of(list, records, g);
-        mark_slots(taken, interval, g.start, n);
+        mark_slots(taken, interval, g.start, slots_of(list, flows, records, g));
     }
 }
 

@@ -15,17 +15,20 @@ use Rattle.adding.proofs.search.mark_grants.Statement.{statement}
 use Rattle.adding.proofs.search.mark_grants.Tie as tie
 
 abbrev Inv-loop : tie.InvT-loop
-Inv-loop list records table interval taken₀ i₀ i-end taken i = (i ≤ i-end) × (length taken ≡ length taken₀) × Overlaid (flowsOf list) (grantsIn table) i interval taken
+Inv-loop list records table interval taken₀ flows i₀ i-end taken i = (i ≤ i-end) × (length taken ≡ length taken₀) × Overlaid (flowsOf list) (grantsIn table) i interval taken
 
 abbrev μ-loop : tie.MeasureT-loop
-μ-loop list records table interval taken₀ i₀ i-end taken i = i-end - i
+μ-loop list records table interval taken₀ flows i₀ i-end taken i = i-end - i
 
 count-requires : tie.Need-count-requires Inv-loop μ-loop
 count-requires c κs = search needs
 
+count-requires-2 : tie.Need-count-requires-2 Inv-loop μ-loop
+count-requires-2 c κs = search needs
+
 loop-holds : tie.Need-loop-holds Inv-loop μ-loop
 loop-holds c =
-    let s = c .before .before .before .before .before in
+    let s = c .before .before .before .before .before .before in
     let a = s .args in
     (omega arith, refl, overlaid-none (flowsOf (a .list .now)) (grantsIn (a .table .now)) (a .interval) (a .taken .now) (s .pre .1 .1))
 
@@ -33,12 +36,15 @@ grant-at-requires : tie.Need-grant-at-requires Inv-loop μ-loop
 grant-at-requires c κs = search needs
 
 slots-of-requires : tie.Need-slots-of-requires Inv-loop μ-loop
-slots-of-requires c κs = search needs
+slots-of-requires c κs =
+    let n = c .before .before .before .before .before in
+    let s = n .before .before .before .before .before in
+    (s .pre .0, n .count .ensures .0)
 
 mark-slots-requires : tie.Need-mark-slots-requires Inv-loop μ-loop
 mark-slots-requires c κs =
     let l = c .before .before .before .before in
-    let s = l .before .before .before .before .before .before in
+    let s = l .before .before .before .before .before .before .before in
     (s .pre .1 .0 .0, omega (arith, s .pre .1 .0 .1, l .loop .inv .1))
 
 add-i : tie.Need-add-i Inv-loop μ-loop
@@ -50,16 +56,16 @@ loop-less c = search needs
 loop-again : tie.Need-loop-again Inv-loop μ-loop
 loop-again c =
     let m = c .before .before in
-    let n = m .before .before in
-    let g = n .before in
+    let n = m .before in
+    let g = n .before .before in
     let l = g .before .before in
     let k = l .before in
-    let a = k .before .before .before .before .before .args in
+    let a = k .before .before .before .before .before .before .args in
     let v = l .loop in (
       omega arith,
       search needs,
       overlaid-next (flowsOf (a .list .now)) (grantsIn (a .table .now)) (a .interval) (v .i) (g .grant-at .result) (n .slots-of .result) (v .taken) _
-          (grant-is (a .table .now) blank (v .i) (g .grant-at .result) (omega (arith, k .count .ensures)) (g .grant-at .ensures)) (n .slots-of .ensures) (v .inv .2) (m .mark-slots .ensures),
+          (grant-is (a .table .now) blank (v .i) (g .grant-at .result) (omega (arith, k .count2 .ensures)) (g .grant-at .ensures)) (n .slots-of .ensures) (v .inv .2) (m .mark-slots .ensures),
     )
 
 same-length : tie.Need-same-length Inv-loop μ-loop
@@ -68,7 +74,7 @@ same-length c = c .before .loop .inv .1
 returns : tie.Need-returns Inv-loop μ-loop
 returns c =
     let l = c .before in
-    let e : l .loop .i ≡ count (l .before .before .before .before .before .before .args .table .now) = omega (arith, l .before .count .ensures) in
+    let e : l .loop .i ≡ count (l .before .before .before .before .before .before .before .args .table .now) = omega (arith, l .before .count2 .ensures) in
     rw (← e) (l .loop .inv .2)
 
 pub mark-grants-spec : {M : Type 1} → statement M
@@ -78,6 +84,7 @@ mark-grants-spec =
     Inv-loop
     μ-loop
     count-requires
+    count-requires-2
     loop-holds
     grant-at-requires
     slots-of-requires

@@ -12,9 +12,6 @@ use Rattle.adding.proofs.search.slots_of.Tie as tie
 record-of-requires : tie.Need-record-of-requires
 record-of-requires c κs = search needs
 
-count-requires : tie.Need-count-requires
-count-requires c κs = search needs
-
 find-requires : tie.Need-find-requires
 find-requires c κs = search needs
 
@@ -25,13 +22,12 @@ returns : tie.Need-returns
 unfolding slots
 returns c =
     let f = c .before in
-    let n = f .before in
-    let r = n .before in
+    let r = f .before in
     let s = r .before .before .before in
     let a = s .args in
-    let e = found-noted (a .list .now) (a .records .now) (s .pre) _ _ (a .g .flow) (n .count .ensures .0) (r .record-of .ensures) (f .find .result) (f .find .ensures) in
+    let e = found-noted (a .list .now) (a .records .now) (s .pre .0) _ _ (a .g .flow) (s .pre .1) (r .record-of .ensures) (f .find .result) (f .find .ensures) in
     c .occupies .ensures ∙ ap (λ (x : Found). occupies (x .flow)) e
 
 pub slots-of-spec : {M : Type 1} → statement M
 slots-of-spec =
-    tie.close (tie.spec record-of-requires count-requires find-requires occupies-requires returns)
+    tie.close (tie.spec record-of-requires find-requires occupies-requires returns)
