@@ -82,7 +82,8 @@ fn mark_grants(list: &[u8], records: &[u8], table: &[u8], interval: u16, taken: 
     let flows = lists::count(list);
     for i in 0..tables::count(table) {
         let g = tables::grant_at(table, i);
-        mark_slots(taken, interval, g.start, slots_of(list, flows, records, g));
+        let n = slots_of(list, flows, records, g);
+        mark_slots(taken, interval, g.start, n);
     }
 }
 

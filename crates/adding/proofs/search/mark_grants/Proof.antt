@@ -37,7 +37,7 @@ grant-at-requires c κs = search needs
 
 slots-of-requires : tie.Need-slots-of-requires Inv-loop μ-loop
 slots-of-requires c κs =
-    let n = c .before .before .before .before .before in
+    let n = c .before .before .before .before in
     let s = n .before .before .before .before .before in
     (s .pre .0, n .count .ensures .0)
 
@@ -56,8 +56,8 @@ loop-less c = search needs
 loop-again : tie.Need-loop-again Inv-loop μ-loop
 loop-again c =
     let m = c .before .before in
-    let n = m .before in
-    let g = n .before .before in
+    let n = m .before .before in
+    let g = n .before in
     let l = g .before .before in
     let k = l .before in
     let a = k .before .before .before .before .before .before .args in
