@@ -5,6 +5,5 @@ mod stretch;
 
 pub use stretch::Edges;
 pub use stretch::edges_of;
-pub use stretch::grants_before;
 pub use stretch::window;
 pub use stretch::window_tests;

@@ -36,7 +36,7 @@ pub fn window_tests(table: &[u8], a: u64, b: u64) -> Checked
 }
 
 // How many grants stand before the first that starts at a or later, found by halving, where the starts rise.
-pub fn grants_before(table: &[u8], a: u64) -> usize
+fn grants_before(table: &[u8], a: u64) -> usize
     ensures { λ r. ⌜ (test12 (grantsOf (now (table .entry))) ≡ Passed → r ≡ before a (grantsOf (now (table .entry)))) ⌝ }
 {
     let mut low = 0;
