@@ -12,6 +12,7 @@ ghost use Rattle.marks.specs.Marks.{marked};
 ghost use Rattle.offsets.specs.Offsets.{offset};
 ghost use Rattle.adding.specs.Parts.{Joins, Unmarked, Laid, Overlaid, firstRun, firstOf};
 use facts::occupies;
+use finding::ABSENT;
 use finding::NUMBERS;
 use finding::find;
 use finding::index;
@@ -119,7 +120,7 @@ pub(crate) fn first_offset(list: &[u8], table: &[u8], f: Flow) -> First
     requires { ⌜ Joins (now list) (now table) f ⌝ }
     ensures { λ r. ⌜ r ≡ firstOf (offset (flowsOf (now (list .entry))) (grantsIn (now (table .entry))) f) ⌝ }
 {
-    let mut records = [0u8; NUMBERS];
+    let mut records = [ABSENT; NUMBERS];
     index(list, &mut records);
     let mut taken = [0u8; BYTES];
     mark_grants(list, &records, table, f.interval, &mut taken);

@@ -9,6 +9,7 @@ ghost use Rattle.lists.specs.Tests.{test5, test6, test7, tests1to7};
 ghost use Rattle.tables.specs.Tables.{grantsOf as grantsIn};
 ghost use Rattle.offsets.specs.Adding.{withNew, test21, listBytes, tableBytes};
 ghost use Rattle.adding.specs.Parts.{Joins};
+use crate::writing::new_count;
 use facts::facts_of;
 use flows::Flow;
 use flows::times;
@@ -53,6 +54,6 @@ pub(crate) fn roomy(list: &[u8], table: &[u8], f: Flow, n: usize, m: usize) -> b
     requires { ⌜ Joins (now list) (now table) f ⌝ }
     ensures { λ r. ⌜ r ≡ leb (listBytes (flowsOf (now (list .entry))) f) n && leb (tableBytes (flowsOf (now (list .entry))) (grantsIn (now (table .entry))) f) m ⌝ }
 {
-    let records = tables::count(table) + times(tables::cycle(table), f.interval) as usize;
+    let records = new_count(table, f);
     list.len() + 6 <= n && 8 + 5 * records <= m
 }

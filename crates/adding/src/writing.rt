@@ -27,6 +27,13 @@ pub(crate) fn write_list(list: &[u8], f: Flow, room: &mut [u8])
     lists::write_record(f, n, room);
 }
 
+// How many records the new table has: one more for each of the new flow's grants.
+pub(crate) fn new_count(table: &[u8], f: Flow) -> usize
+    ensures { λ r. ⌜ (r ≡ count (now (table .entry)) + cycleOf (now (table .entry)) / f .interval) × (r < 131072) ⌝ }
+{
+    tables::count(table) + times(tables::cycle(table), f.interval) as usize
+}
+
 // Record i of the table's n starts before the slot x.
 fn comes_first(table: &[u8], n: usize, i: usize, x: u64) -> bool
     ensures { λ r. ⌜ r ≡ comesFirst (now (table .entry)) n i x ⌝ }
@@ -65,8 +72,12 @@ pub(crate) fn write_table(table: &[u8], f: Flow, offset: u64, room: &mut [u8])
     requires { ⌜ ((l : List ℕ) × Joins l (now table) f) × (offset < f .interval) × (place (count (now table) + cycleOf (now table) / f .interval) ≤ length (now room)) ⌝ }
     ensures { λ _. ⌜ now (room .exit) ≡ tableOf (cycleOf (now (table .entry))) (frameOf (now (table .entry))) (grantsAfter (now (table .entry)) f offset) ++ drop (place (count (now (table .entry)) + cycleOf (now (table .entry)) / f .interval)) (now (room .entry)) ⌝ }
 {
-    let cycle = tables::cycle(table);
-    let total = tables::count(table) + times(cycle, f.interval) as usize;
-    tables::write_head(total as u16, cycle, tables::frame(table), room);
+    let total = new_count(table, f);
+    tables::write_head(
+        total as u16,
+        tables::cycle(table),
+        tables::frame(table),
+        room,
+    );
     write_grants(table, f, offset, total, room);
 }

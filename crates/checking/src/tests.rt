@@ -10,6 +10,7 @@ use crate::cells::CELLS;
 use crate::counts::test_15;
 use crate::faults::answer;
 use crate::faults::faults;
+use finding::ABSENT;
 use finding::NUMBERS;
 use finding::index;
 use refusals::Checked;
@@ -35,7 +36,7 @@ pub fn law_tests(list: &[u8], table: &[u8]) -> Checked
     if !belongs(cycle, span.frame, table) {
         return Checked::Refused(Refusal::OtherCycle);
     }
-    let mut records = [0u8; NUMBERS];
+    let mut records = [ABSENT; NUMBERS];
     index(list, &mut records);
     tests_14_to_18(list, &records, cycle, table)
 }

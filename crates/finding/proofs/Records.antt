@@ -1,12 +1,12 @@
 -- The flow of a number from record i on, and the records that are noted for the numbers. Assumes nothing.
-use mathlib.Core.Path.{_≡_, sym, ap, _∙_}
+use mathlib.Core.Path.{_≡_, refl, sym, ap, _∙_}
 use mathlib.Core.Bool.{true, false}
 use mathlib.Core.List.{List}
 use Prim.Native.Nat.{ℕ, _+_, _%_, _≤_, _<_, min}
 use native.Mathlib.Omega.{arith}
 use native.Mathlib.Nat.{mod-lt}
 use lib.Dec.{lit<}
-use lib.ListN.{length, getD, set, drop, length-set, drop-of-length-le}
+use lib.ListN.{length, getD, set, drop, replicate, length-set, getD-replicate, drop-of-length-le}
 use lib.Seq.{getD-set-same, getD-set-other}
 use borrow.Author.Tests.{eq-eqb, ne-eqb}
 use Rattle.logic.proofs.Tests.{by-lt, by-eq}
@@ -41,10 +41,10 @@ note : (rs : List ℕ) (k i x : ℕ) → length rs ≡ 1024 → x % 1024 ≡ k %
 note rs k i x l e = rw e (getD-set-same rs (k % 1024) i 0 (rw l (mod-lt k (lit< tt))))
 
 -- nothing is noted
-pub indexed-none : (fs : List Flow) (rs : List ℕ) (i : ℕ) → i ≡ min (length fs) 128 → length rs ≡ 1024 → ((k : ℕ) → k < 1024 → getD rs k 0 ≡ 128) → Indexed fs i rs
-indexed-none fs rs i e l a =
+pub indexed-none : (fs : List Flow) (i : ℕ) → i ≡ min (length fs) 128 → Indexed fs i (replicate 1024 128)
+indexed-none fs i e =
     record {
-      entries = l;
+      entries = refl;
       low = λ x. omega (arith, is x);
       starts = λ x. rw (is x) (by-lt (length fs) 128
           (λ h. rw (drop-of-length-le fs {i = 128} (omega arith), drop-of-length-le fs {i = i} (omega arith)))
@@ -52,8 +52,8 @@ indexed-none fs rs i e l a =
       own = λ x h. absurd (omega (arith, is x));
     }
   where
-    is : (x : ℕ) → recordOf rs x ≡ 128
-    is x = a (x % 1024) (mod-lt x (lit< tt))
+    is : (x : ℕ) → recordOf (replicate 1024 128) x ≡ 128
+    is x = getD-replicate 1024 (x % 1024) 128 0 (mod-lt x (lit< tt))
 
 -- record k is noted, over those behind it
 pub indexed-next : (fs : List Flow) (rs : List ℕ) (i k : ℕ) (f : Flow) → Indexed fs i rs → k + 1 ≡ i → k < 128 → k < length fs → f ≡ getD fs k noFlow

@@ -2,8 +2,8 @@
 //
 // No public function asks anything of its caller.
 ghost use mathlib.Core.Path.{_≡_};
-ghost use Prim.Native.Nat.{ℕ, _%_, _<_, min};
-ghost use lib.ListN.{length, getD, drop};
+ghost use Prim.Native.Nat.{_%_, _<_, min};
+ghost use lib.ListN.{drop, replicate};
 ghost use Rattle.lists.specs.Lists.{flowsFrom, flowsOf};
 ghost use Rattle.finding.specs.Parts.{found, recordOf, Indexed};
 use flows::Flow;
@@ -23,7 +23,7 @@ pub const FLOWS: usize = 128;
 pub const NUMBERS: usize = 1024;
 
 // What is noted for a number that no flow of the longest list has.
-const ABSENT: u8 = 128;
+pub const ABSENT: u8 = 128;
 
 // Where the record of a number is noted.
 fn entry(number: u16) -> usize
@@ -39,23 +39,13 @@ fn noted(n: usize) -> usize
     if n < FLOWS { n } else { FLOWS }
 }
 
-// Notes for every number that no flow has it.
-fn forget(records: &mut [u8])
-    ensures { λ _. ⌜ ((k : ℕ) → k < length (now (records .entry)) → getD (now (records .exit)) k 0 ≡ 128) ⌝ }
-{
-    for k in 0..records.len() {
-        records[k] = ABSENT;
-    }
-}
-
-// Notes for each number the first list record that has it, where there is room for all numbers.
+// Notes for each number the first list record that has it, where nothing is noted yet for any of them.
 pub fn index(list: &[u8], records: &mut [u8])
-    ensures { λ _. ⌜ (length (now (records .entry)) ≡ 1024 → Indexed (flowsOf (now (list .entry))) 0 (now (records .exit))) ⌝ }
+    ensures { λ _. ⌜ (now (records .entry) ≡ replicate 1024 128 → Indexed (flowsOf (now (list .entry))) 0 (now (records .exit))) ⌝ }
 {
     if records.len() != NUMBERS {
         return;
     }
-    forget(records);
     let mut i = noted(count(list));
     while 0 < i {
         i -= 1;

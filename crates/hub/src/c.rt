@@ -2,6 +2,7 @@
 // nothing to the operation that it calls. The names begin with the product's, since C has one space of names.
 ghost use mathlib.Core.Path.{_≡_};
 ghost use lib.ListN.{length};
+ghost use Rattle.refusals.specs.Refusals.{number, place};
 ghost use Rattle.sheets.specs.Answers.{listAnswer, listRoom, sheetAnswer, sheetRoom};
 ghost use Rattle.law.specs.Check.{check};
 ghost use Rattle.planner.specs.Plan.{planAnswer, planRoom};
@@ -10,8 +11,17 @@ ghost use Rattle.offsets.specs.Adding.{newFlow, addAnswer, listRoom as newListR
 ghost use Rattle.hub.specs.Codes.{code, value, checkCode, checkValue, windowCode, windowFirst, windowBytes, addCode, addValue};
 use offsets::Added;
 use refusals::Checked;
+use refusals::Refusal;
 use refusals::Written;
 use windows::Edges;
+
+// A refusal as its number, with the place through the pointer.
+fn refused(r: Refusal, out: &mut u64) -> u32
+    ensures { λ n. ⌜ (n ≡ number r) × (now (out .exit) ≡ place r) ⌝ }
+{
+    *out = r.place() as u64;
+    r.number()
+}
 
 // What was written as a number, with the bytes or the place through the pointer.
 fn report(made: Written, out: &mut u64) -> u32
@@ -22,10 +32,7 @@ fn report(made: Written, out: &mut u64) -> u32
             *out = n as u64;
             0
         }
-        Written::Refused(r) => {
-            *out = r.place() as u64;
-            r.number()
-        }
+        Written::Refused(r) => refused(r, out),
     }
 }
 
@@ -74,10 +81,7 @@ pub extern "C" fn snowploughy_check(list: &[u8], table: &[u8], out: &mut u64) ->
             *out = 0;
             0
         }
-        Checked::Refused(r) => {
-            *out = r.place() as u64;
-            r.number()
-        }
+        Checked::Refused(r) => refused(r, out),
     }
 }
 
@@ -118,10 +122,7 @@ fn report_added(added: Added, out: &mut u64) -> u32
             *out = offset as u64;
             0
         }
-        Added::Refused(r) => {
-            *out = r.place() as u64;
-            r.number()
-        }
+        Added::Refused(r) => refused(r, out),
     }
 }
 

@@ -12,11 +12,8 @@ enum-known-added c = search needs
 enum-known-added-2 : tie.Need-enum-known-added-2
 enum-known-added-2 c = search needs
 
-place-requires : tie.Need-place-requires
-place-requires c κs = search needs
-
-number-requires : tie.Need-number-requires
-number-requires c κs = search needs
+refused-requires : tie.Need-refused-requires
+refused-requires c κs = search needs
 
 returns : tie.Need-returns
 returns c = search needs
@@ -24,9 +21,9 @@ returns c = search needs
 returns-2 : tie.Need-returns-2
 returns-2 c =
     let e = sym (c .before .before .before .added2 .given .1) in
-    (c .number .ensures ∙ ap addCode e, c .before .place .ensures ∙ ap addValue e)
+    (c .refused .ensures .0 ∙ ap addCode e, c .refused .ensures .1 ∙ ap addValue e)
 
 pub report-added-spec : {M : Type 1} → statement M
 report-added-spec =
     tie.close
-    (tie.spec enum-known-added enum-known-added-2 place-requires number-requires returns returns-2)
+    (tie.spec enum-known-added enum-known-added-2 refused-requires returns returns-2)

@@ -15,11 +15,8 @@ enum-told c = search needs
 enum-known-checked : tie.Need-enum-known-checked
 enum-known-checked c = search needs
 
-place-requires : tie.Need-place-requires
-place-requires c κs = search needs
-
-number-requires : tie.Need-number-requires
-number-requires c κs = search needs
+refused-requires : tie.Need-refused-requires
+refused-requires c κs = search needs
 
 returns : tie.Need-returns
 returns c =
@@ -30,7 +27,7 @@ returns-2 : tie.Need-returns-2
 returns-2 c =
     let e = c .before .before .before .before .before in
     let is = sym (c .before .before .before .checked .given .1) ∙ e .check .ensures in
-    (c .number .ensures ∙ ap checkCode is, c .before .place .ensures ∙ ap checkValue is)
+    (c .refused .ensures .0 ∙ ap checkCode is, c .refused .ensures .1 ∙ ap checkValue is)
 
 pub snowploughy-check-spec : {M : Type 1} → statement M
 snowploughy-check-spec =
@@ -39,7 +36,6 @@ snowploughy-check-spec =
     check-requires
     enum-told
     enum-known-checked
-    place-requires
-    number-requires
+    refused-requires
     returns
     returns-2)
