@@ -1,7 +1,7 @@
 -- Document 01's "Refusal numbers" and those of document 02: the number and the place of each refusal. Assumes nothing.
 use Prim.Native.Nat.{ℕ}
 use Rattle.refusals.specs.declared.Refusal.{Refusal}
-use Rattle.refusals.specs.declared.Refusal.the-variants.{Length, Head, Count, Field, UsedNumber, Unrelated, Limits, Overload, Room, NoFrame, TableForm, NotRising, OtherCycle, UnknownFlow, GrantCount, Timing, Overlap, PastCycle, WindowEnds, Line, OutsideSpan, NoOffset}
+use Rattle.refusals.specs.declared.Refusal.the-variants.{Length, Head, Count, Field, UsedNumber, Unrelated, Limits, Overload, Room, NoFrame, TableForm, NotRising, OtherCycle, UnknownFlow, GrantCount, Timing, Overlap, PastCycle, WindowEnds, Line, OutsideSpan, NoOffset, Encoding, MissingSetting, NotWhole, NoChannel}
 
 -- the refusal's number
 abbrev pub number : Refusal → ℕ
@@ -27,8 +27,12 @@ number WindowEnds = 19
 number (Line p) = 20
 number OutsideSpan = 21
 number NoOffset = 22
+number (Encoding p) = 23
+number (MissingSetting p) = 24
+number (NotWhole p) = 25
+number NoChannel = 26
 
--- the record or line that it names, counted from 1; 0 where it names none
+-- the record, line or encoding that it names, counted from 1; 0 where it names none
 abbrev pub place : Refusal → ℕ
 place Length = 0
 place Head = 0
@@ -52,3 +56,7 @@ place WindowEnds = 0
 place (Line p) = p
 place OutsideSpan = 0
 place NoOffset = 0
+place (Encoding p) = p
+place (MissingSetting p) = p
+place (NotWhole p) = p
+place NoChannel = 0

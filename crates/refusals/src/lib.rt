@@ -1,6 +1,7 @@
 // Document 01's refusals and those that document 02 adds, and the answers that carry one.
 ghost use mathlib.Core.Path.{_≡_};
 ghost use Rattle.refusals.specs.Refusals.{number, place};
+ghost use Rattle.refusals.specs.Tests.{_⟫_, unless};
 
 // A refusal, named after its test, with the place at fault where document 01 names one: its number, when it is given, and what
 // the place counts.
@@ -49,6 +50,14 @@ pub enum Refusal {
     OutsideSpan,
     // 22: no offset at which the new flow fits
     NoOffset,
+    // 23: broken encoding, another type at the top, or one of the four settings repeated or of wrong length: encoding
+    Encoding(usize),
+    // 24: one of the four settings missing: encoding
+    MissingSetting(usize),
+    // 25: interval not a whole number of slots: encoding
+    NotWhole(usize),
+    // 26: a channel value of zero
+    NoChannel,
 }
 
 // What tests answer.
@@ -91,10 +100,14 @@ impl Refusal {
             Refusal::Line(_) => 20,
             Refusal::OutsideSpan => 21,
             Refusal::NoOffset => 22,
+            Refusal::Encoding(_) => 23,
+            Refusal::MissingSetting(_) => 24,
+            Refusal::NotWhole(_) => 25,
+            Refusal::NoChannel => 26,
         }
     }
 
-    // The record or line that it names, 0 where it names none.
+    // The record, line or encoding that it names, 0 where it names none.
     pub fn place(self) -> usize
         ensures { λ r. ⌜ r ≡ place self ⌝ }
     {
@@ -121,6 +134,23 @@ impl Refusal {
             Refusal::Line(p) => p,
             Refusal::OutsideSpan => 0,
             Refusal::NoOffset => 0,
+            Refusal::Encoding(p) => p,
+            Refusal::MissingSetting(p) => p,
+            Refusal::NotWhole(p) => p,
+            Refusal::NoChannel => 0,
         }
     }
+}
+
+// The tests so far, and then one that refuses by r unless it passes: the first that finds fault is the one that answers.
+pub fn noted(before: Checked, passes: bool, r: Refusal) -> Checked
+    ensures { λ c. ⌜ c ≡ (before ⟫ unless passes r) ⌝ }
+{
+    if let Checked::Refused(first) = before {
+        return Checked::Refused(first);
+    }
+    if passes {
+        return Checked::Passed;
+    }
+    Checked::Refused(r)
 }

@@ -72,6 +72,18 @@ enum-told-21 c = search needs
 enum-told-22 : tie.Need-enum-told-22
 enum-told-22 c = search needs
 
+enum-told-23 : tie.Need-enum-told-23
+enum-told-23 c = search needs
+
+enum-told-24 : tie.Need-enum-told-24
+enum-told-24 c = search needs
+
+enum-told-25 : tie.Need-enum-told-25
+enum-told-25 c = search needs
+
+enum-told-26 : tie.Need-enum-told-26
+enum-told-26 c = search needs
+
 returns : tie.Need-returns
 returns c = ap number (sym (c .enum-told .given .1))
 
@@ -138,6 +150,18 @@ returns-21 c = ap number (sym (c .enum-told21 .given .1))
 returns-22 : tie.Need-returns-22
 returns-22 c = ap number (sym (c .enum-told22 .given .1))
 
+returns-23 : tie.Need-returns-23
+returns-23 c = ap number (sym (c .enum-told23 .given .1))
+
+returns-24 : tie.Need-returns-24
+returns-24 c = ap number (sym (c .enum-told24 .given .1))
+
+returns-25 : tie.Need-returns-25
+returns-25 c = ap number (sym (c .enum-told25 .given .1))
+
+returns-26 : tie.Need-returns-26
+returns-26 c = ap number (sym (c .enum-told26 .given .1))
+
 pub number-spec : {M : Type 1} → statement M
 number-spec =
     tie.close
@@ -164,6 +188,10 @@ number-spec =
     enum-told-20
     enum-told-21
     enum-told-22
+    enum-told-23
+    enum-told-24
+    enum-told-25
+    enum-told-26
     returns
     returns-2
     returns-3
@@ -185,4 +213,8 @@ number-spec =
     returns-19
     returns-20
     returns-21
-    returns-22)
+    returns-22
+    returns-23
+    returns-24
+    returns-25
+    returns-26)

@@ -72,6 +72,18 @@ enum-told-10 c = search needs
 enum-told-11 : tie.Need-enum-told-11
 enum-told-11 c = search needs
 
+enum-known-self-12 : tie.Need-enum-known-self-12
+enum-known-self-12 c = search needs
+
+enum-known-self-13 : tie.Need-enum-known-self-13
+enum-known-self-13 c = search needs
+
+enum-known-self-14 : tie.Need-enum-known-self-14
+enum-known-self-14 c = search needs
+
+enum-told-12 : tie.Need-enum-told-12
+enum-told-12 c = search needs
+
 returns : tie.Need-returns
 returns c = ap place (sym (c .enum-told .given .1))
 
@@ -138,6 +150,18 @@ returns-21 c = ap place (sym (c .enum-told10 .given .1))
 returns-22 : tie.Need-returns-22
 returns-22 c = ap place (sym (c .enum-told11 .given .1))
 
+returns-23 : tie.Need-returns-23
+returns-23 c = ap place (sym (c .before .self12 .given .1))
+
+returns-24 : tie.Need-returns-24
+returns-24 c = ap place (sym (c .before .self13 .given .1))
+
+returns-25 : tie.Need-returns-25
+returns-25 c = ap place (sym (c .before .self14 .given .1))
+
+returns-26 : tie.Need-returns-26
+returns-26 c = ap place (sym (c .enum-told12 .given .1))
+
 pub place-spec : {M : Type 1} → statement M
 place-spec =
     tie.close
@@ -164,6 +188,10 @@ place-spec =
     enum-known-self-11
     enum-told-10
     enum-told-11
+    enum-known-self-12
+    enum-known-self-13
+    enum-known-self-14
+    enum-told-12
     returns
     returns-2
     returns-3
@@ -185,4 +213,8 @@ place-spec =
     returns-19
     returns-20
     returns-21
-    returns-22)
+    returns-22
+    returns-23
+    returns-24
+    returns-25
+    returns-26)

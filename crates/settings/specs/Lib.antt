@@ -1,0 +1,5 @@
+pub mod Runs
+pub mod Encodings
+pub mod Form
+pub mod Slots
+pub mod Tests
