@@ -1,6 +1,6 @@
 -- Live add's answer and its two rooms, test by test. Assumes nothing.
 use mathlib.Core.Path.{_≡_, refl, sym, ap, _∙_}
-use mathlib.Core.Bool.{Bool, true, false, cond, _&&_}
+use mathlib.Core.Bool.{Bool, true, false, _&&_}
 use mathlib.Core.List.{List, [], _∷_, _++_}
 use mathlib.Core.Option.{Option, none, some}
 use Prim.Native.Nat.{ℕ, _+_, _/_, _≤_, _<_}
@@ -33,28 +33,11 @@ use Rattle.offsets.specs.Offsets.{fits, offset}
 use Rattle.offsets.specs.Adding.{withNew, test21, newTests, listBytes, tableBytes, test9, test22, addTests, offsetFound, newList, newTable, tableAdded, addAnswer, listRoom, tableRoom}
 use Rattle.offsets.proofs.Joining.{length-new-list, length-new-table}
 use Rattle.offsets.proofs.Smallest.{smallest-exactly}
-use Rattle.adding.specs.declared.asked.Asked.the-variants.{Kept, Broken}
 use Rattle.adding.specs.declared.search.First.the-variants.{At, Nowhere}
-use Rattle.adding.specs.Parts.{asked, Joins, firstOf, grantsAfter}
+use Rattle.adding.specs.Parts.{Joins, firstOf, grantsAfter}
 use Rattle.adding.proofs.Known.{known}
 use Rattle.adding.proofs.Verdicts.{table-longer}
 use Rattle.adding.proofs.Tabling.{table-same}
-
--- ---- the new flow
-
-pub asked-kept : (f g : Flow) → asked f ≡ Kept g → (f ≡ g) × (keeps f ≡ true)
-asked-kept f g e = go (keeps f) refl e
-  where
-    go : (b : Bool) → keeps f ≡ b → cond b (Kept f) Broken ≡ Kept g → (f ≡ g) × (keeps f ≡ true)
-    go true k q = (cc, k)
-    go false k q = let z : _≡_ {A = ℕ} 0 1 = cc in absurd (omega arith)
-
-pub asked-broken : (f : Flow) → asked f ≡ Broken → keeps f ≡ false
-asked-broken f e = go (keeps f) refl e
-  where
-    go : (b : Bool) → keeps f ≡ b → cond b (Kept f) Broken ≡ Broken → keeps f ≡ false
-    go true k q = let z : _≡_ {A = ℕ} 0 1 = cc in absurd (omega arith)
-    go false k q = k
 
 -- ---- 3 and 4 on the new list, and what follows
 

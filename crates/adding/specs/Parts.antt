@@ -1,6 +1,6 @@
 -- What the code's own parts ask and answer. Assumes nothing.
 use mathlib.Core.Path.{_≡_}
-use mathlib.Core.Bool.{Bool, true, cond, not, _&&_}
+use mathlib.Core.Bool.{Bool, true, not, _&&_}
 use mathlib.Core.Logic.{_⊎_}
 use mathlib.Core.List.{List}
 use mathlib.Core.Option.{Option, none, some}
@@ -8,7 +8,6 @@ use Prim.Native.Nat.{ℕ, zero, suc, _+_, _%_, _≤_, _<_}
 use lib.Dec.{ltb, leb}
 use Rattle.marks.specs.Marks.{bit, marked}
 use Rattle.flows.specs.declared.flow.Flow.{Flow}
-use Rattle.flows.specs.Flows.{keeps}
 use Rattle.refusals.specs.declared.Checked.the-variants.{Passed}
 use Rattle.lists.specs.Lists.{flowsOf}
 use Rattle.tables.specs.declared.packed.Grant.{Grant}
@@ -17,14 +16,8 @@ use Rattle.law.specs.Check.{check, slots}
 use Rattle.law.specs.Law.{nth}
 use Rattle.offsets.specs.Offsets.{newGrants, smallest, joined}
 use Rattle.offsets.specs.Adding.{newTests}
-use Rattle.adding.specs.declared.asked.Asked.{Asked}
-use Rattle.adding.specs.declared.asked.Asked.the-variants.{Kept, Broken}
 use Rattle.adding.specs.declared.search.First.{First}
 use Rattle.adding.specs.declared.search.First.the-variants.{At, Nowhere}
-
--- the flow, if it keeps its rule
-abbrev pub asked : Flow → Asked
-asked f = cond (keeps f) (Kept f) Broken
 
 -- the list and the table pass the check, and the new flow its tests with them
 pub record Joins (l t : List ℕ) (f : Flow) : Type 0 where

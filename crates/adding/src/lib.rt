@@ -2,7 +2,6 @@
 //
 // It writes the new list and the new table into two rooms, or nothing. The public function asks nothing of its caller.
 mod adding;
-mod asked;
 mod search;
 mod tests;
 mod writing;

@@ -1,1 +1,2 @@
 pub mod Flows
+pub mod Asking

@@ -9,6 +9,8 @@ use Rattle.fields.specs.declared.kind.Kind.the-variants.{ListRecord}
 use Rattle.flows.specs.declared.flow.Flow.{Flow}
 use Rattle.flows.specs.declared.flow.Rule.{Rule}
 use Rattle.flows.specs.declared.flow.Rule.the-variants.{Kept, Broken}
+use Rattle.flows.specs.declared.asked.Asked.{Asked}
+use Rattle.flows.specs.declared.asked.Asked.the-variants.{Kept as KeptFlow, Broken as BrokenFlow}
 use Rattle.fields.specs.Records.{packed, valuesOf}
 
 -- "a number 1 to 1023, a size of 1 to 4,095 slots, an interval of 1 to 4,096 slots", "the size is at most the interval", "the
@@ -22,6 +24,14 @@ keeps f =
 unfoldable pub rule : Flow → Rule
 unfolding keeps
 rule f = cond (keeps f) Kept Broken
+
+-- a flow out of four plain numbers, of any size
+abbrev pub newFlow : ℕ → ℕ → ℕ → ℕ → Flow
+newFlow number size interval jitter = record { number = number; size = size; interval = interval; jitter = jitter }
+
+-- the flow, if it keeps its rule
+abbrev pub asked : Flow → Asked
+asked f = cond (keeps f) (KeptFlow f) BrokenFlow
 
 -- what is read where there is no record
 abbrev pub noFlow : Flow

@@ -13,6 +13,7 @@ use denote.Ref.{RefT}
 use borrow.Author.Tests.{lt-ltb, le-ltb, lt-leb, le-leb, leb-true}
 use Rattle.logic.proofs.Tests.{by-lt, and-both}
 use Rattle.flows.specs.declared.flow.Flow.{Flow}
+use Rattle.flows.specs.Flows.{newFlow}
 use Rattle.refusals.specs.declared.Refusal.{Refusal}
 use Rattle.refusals.specs.declared.Checked.{Checked}
 use Rattle.refusals.specs.declared.Checked.the-variants.{Passed, Refused}
@@ -38,7 +39,7 @@ use Rattle.law.specs.Check.{test18, tests14to18, lawTests, check}
 use Rattle.planner.specs.Plan.{test8, test9, test10, planTests, planTable, planAnswer}
 use Rattle.offsets.specs.declared.Added.{Added}
 use Rattle.offsets.specs.declared.Added.the-variants.{Offset, Refused as NotAdded}
-use Rattle.offsets.specs.Adding.{newFlow, withNew, test9 as bothRooms, test22, newTests, listBytes, tableBytes, addTests, offsetFound, newList, newTable, tableAdded, addAnswer, listRoom as newListRoom, tableRoom as newTableRoom}
+use Rattle.offsets.specs.Adding.{withNew, test9 as bothRooms, test22, newTests, listBytes, tableBytes, addTests, offsetFound, newList, newTable, tableAdded, addAnswer, listRoom as newListRoom, tableRoom as newTableRoom}
 use Rattle.hub.specs.Chains.{chain1to4, chain1to7, planChain, formChain, lawChain, checkChain, windowChain, roomTest, sheetChain, listChain, newChain, addChain}
 use Rattle.hub.specs.Statements.{Writes, Check, Window, LiveAdd}
 use Rattle.windows.proofs.Contents.{one-stretch}

@@ -9,6 +9,7 @@ use lib.ListN.{length, take}
 use lib.Seq.{take-at}
 use Rattle.logic.proofs.Members.{all-imp}
 use Rattle.flows.specs.declared.flow.Flow.{Flow}
+use Rattle.flows.specs.Flows.{newFlow}
 use Rattle.refusals.specs.declared.Refusal.the-variants.{NoOffset}
 use Rattle.refusals.specs.declared.Checked.the-variants.{Passed}
 use Rattle.lists.specs.Lists.{flowsOf}
@@ -21,7 +22,7 @@ use Rattle.law.proofs.Demand.{check-is-lawful}
 use Rattle.offsets.specs.declared.Added.{Added}
 use Rattle.offsets.specs.declared.Added.the-variants.{Offset, Refused as NotAdded}
 use Rattle.offsets.specs.Offsets.{newGrants}
-use Rattle.offsets.specs.Adding.{newFlow, newTests, test9, listBytes, tableBytes, newList, newTableGrants, newTable, addAnswer}
+use Rattle.offsets.specs.Adding.{newTests, test9, listBytes, tableBytes, newList, newTableGrants, newTable, addAnswer}
 use Rattle.offsets.proofs.Among.{Prompt, from-prompt}
 use Rattle.offsets.proofs.Joining.{length-new-list, length-new-table}
 use Rattle.offsets.proofs.Standing.{list-back, old-stand, new-stand, new-held}

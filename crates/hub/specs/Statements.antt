@@ -5,6 +5,7 @@ use mathlib.Core.List.{List}
 use Prim.Native.Nat.{ℕ}
 use lib.ListN.{length}
 use denote.Ref.{RefT}
+use Rattle.flows.specs.Flows.{newFlow}
 use Rattle.refusals.specs.declared.Checked.{Checked}
 use Rattle.refusals.specs.declared.Written.{Written}
 use Rattle.sheets.specs.Answers.{listAnswer, listRoom, sheetAnswer, sheetRoom}
@@ -12,7 +13,7 @@ use Rattle.windows.specs.Window.{windowTests, edge, Stretch}
 use Rattle.law.specs.Check.{check}
 use Rattle.planner.specs.Plan.{planAnswer, planRoom}
 use Rattle.offsets.specs.declared.Added.{Added}
-use Rattle.offsets.specs.Adding.{newFlow, addAnswer, listRoom as newListRoom, tableRoom as newTableRoom}
+use Rattle.offsets.specs.Adding.{addAnswer, listRoom as newListRoom, tableRoom as newTableRoom}
 
 -- an operation that writes: r is its answer and room′ the room afterwards
 pub record Writes (answer : ℕ → Written) (after : List ℕ → List ℕ) (room : List ℕ) (r : Written) (room′ : List ℕ) : Type 0 where

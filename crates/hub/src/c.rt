@@ -2,12 +2,13 @@
 // nothing to the operation that it calls. The names begin with the product's, since C has one space of names.
 ghost use mathlib.Core.Path.{_≡_};
 ghost use lib.ListN.{length};
+ghost use Rattle.flows.specs.Flows.{newFlow};
 ghost use Rattle.refusals.specs.Refusals.{number, place};
 ghost use Rattle.sheets.specs.Answers.{listAnswer, listRoom, sheetAnswer, sheetRoom};
 ghost use Rattle.law.specs.Check.{check};
 ghost use Rattle.planner.specs.Plan.{planAnswer, planRoom};
 ghost use Rattle.windows.specs.Window.{edgesOf};
-ghost use Rattle.offsets.specs.Adding.{newFlow, addAnswer, listRoom as newListRoom, tableRoom as newTableRoom};
+ghost use Rattle.offsets.specs.Adding.{addAnswer, listRoom as newListRoom, tableRoom as newTableRoom};
 ghost use Rattle.hub.specs.Codes.{code, value, checkCode, checkValue, windowCode, windowFirst, windowBytes, addCode, addValue};
 use offsets::Added;
 use refusals::Checked;

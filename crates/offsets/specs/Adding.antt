@@ -22,10 +22,6 @@ use Rattle.offsets.specs.declared.Added.{Added}
 use Rattle.offsets.specs.declared.Added.the-variants.{Offset, Refused as Stopped}
 use Rattle.offsets.specs.Offsets.{newGrants, offset, joined}
 
--- "one new flow": four plain numbers
-abbrev pub newFlow : ℕ → ℕ → ℕ → ℕ → Flow
-newFlow number size interval jitter = record { number = number; size = size; interval = interval; jitter = jitter }
-
 -- "the new list, with the new flow as its last record"
 unfoldable pub withNew : List Flow → Flow → List Flow
 withNew fs f = fs ++ (f ∷ [])

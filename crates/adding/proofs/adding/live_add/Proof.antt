@@ -5,12 +5,12 @@ use mathlib.Core.Bool.{true}
 use Prim.Native.Nat.{ℕ, _+_}
 use native.Mathlib.Omega.{arith}
 use Rattle.flows.specs.declared.flow.Flow.{Flow}
-use Rattle.flows.specs.Flows.{keeps}
+use Rattle.flows.specs.Flows.{newFlow, keeps}
+use Rattle.flows.proofs.Asking.{asked-kept, asked-broken}
 use Rattle.refusals.specs.declared.Refusal.the-variants.{Field}
 use Rattle.refusals.specs.declared.Checked.the-variants.{Passed, Refused}
 use Rattle.law.specs.Check.{check}
-use Rattle.offsets.specs.Adding.{newFlow}
-use Rattle.adding.proofs.Answering.{Ends, asked-kept, asked-broken, new-full, new-broken, ends-checked, ends-new}
+use Rattle.adding.proofs.Answering.{Ends, new-full, new-broken, ends-checked, ends-new}
 use borrow.Author.Needs.{needs}
 use Rattle.adding.proofs.adding.live_add.Statement.{statement}
 use Rattle.adding.proofs.adding.live_add.Tie as tie

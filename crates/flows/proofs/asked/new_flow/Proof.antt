@@ -1,14 +1,14 @@
--- `adding::asked::new_flow` meets its contract.
+-- `flows::asked::new_flow` meets its contract.
 -- Assumes nothing.
 use mathlib.Core.Path.{sym, _∙_}
 use Prim.Native.Nat.{_≤_}
 use native.Mathlib.Omega.{arith}
 use borrow.Author.Needs.{needs}
 use borrow.Author.Tests.{not-true, not-false}
-use Rattle.offsets.specs.Adding.{newFlow}
-use Rattle.adding.proofs.Asking.{narrow-is, wide-broken, rule-kept, rule-broken}
-use Rattle.adding.proofs.asked.new_flow.Statement.{statement}
-use Rattle.adding.proofs.asked.new_flow.Tie as tie
+use Rattle.flows.specs.Flows.{newFlow}
+use Rattle.flows.proofs.Asking.{narrow-is, wide-broken, kept-asked, broken-asked}
+use Rattle.flows.proofs.asked.new_flow.Statement.{statement}
+use Rattle.flows.proofs.asked.new_flow.Tie as tie
 
 narrow-requires : tie.Need-narrow-requires
 narrow-requires c κs = search needs
@@ -51,13 +51,13 @@ returns-2 : tie.Need-returns-2
 returns-2 c =
     let m = c .before in
     let r = m .before in
-    rule-kept _ (sym (r .rule .ensures) ∙ c .enum-told .given .1)
+    kept-asked _ (sym (r .rule .ensures) ∙ c .enum-told .given .1)
 
 returns-3 : tie.Need-returns-3
 returns-3 c =
     let m = c .before in
     let r = m .before in
-    rule-broken _ (sym (r .rule .ensures) ∙ c .enum-told2 .given .1)
+    broken-asked _ (sym (r .rule .ensures) ∙ c .enum-told2 .given .1)
 
 pub new-flow-spec : {M : Type 1} → statement M
 new-flow-spec =

@@ -1,8 +1,8 @@
--- `adding::asked::narrow` meets its contract.
+-- `flows::asked::narrow` meets its contract.
 -- Assumes nothing.
 use borrow.Author.Tests.{le-leb, lt-leb}
-use Rattle.adding.proofs.asked.narrow.Statement.{statement}
-use Rattle.adding.proofs.asked.narrow.Tie as tie
+use Rattle.flows.proofs.asked.narrow.Statement.{statement}
+use Rattle.flows.proofs.asked.narrow.Tie as tie
 
 returns : tie.Need-returns
 returns c = rw (le-leb _ _ (c .before .before .if1 .taken), le-leb _ _ (c .before .if2 .taken), le-leb _ _ (c .if3 .taken))

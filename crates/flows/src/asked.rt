@@ -1,11 +1,10 @@
-// The new flow, out of four plain numbers.
+// A flow out of four plain numbers, of any size.
 ghost use mathlib.Core.Path.{_≡_};
 ghost use mathlib.Core.Bool.{_&&_};
 ghost use lib.Dec.{leb};
-ghost use Rattle.offsets.specs.Adding.{newFlow};
-ghost use Rattle.adding.specs.Parts.{asked};
-use flows::Flow;
-use flows::Rule;
+ghost use Rattle.flows.specs.Flows.{newFlow, asked};
+use crate::flow::Flow;
+use crate::flow::Rule;
 
 // The flow, or that a field breaks its rule.
 pub enum Asked {
@@ -24,7 +23,7 @@ fn narrow(number: u64, size: u64, interval: u64, jitter: u64) -> bool
 }
 
 // The flow of these four numbers, of any size, if it keeps the rule of test 4.
-pub(crate) fn new_flow(number: u64, size: u64, interval: u64, jitter: u64) -> Asked
+pub fn new_flow(number: u64, size: u64, interval: u64, jitter: u64) -> Asked
     ensures { λ r. ⌜ r ≡ asked (newFlow number size interval jitter) ⌝ }
 {
     if !narrow(number, size, interval, jitter) {
