@@ -19,13 +19,11 @@ use sheets::Survey;
 fn ruled(before: Checked, f: Flow, n: usize) -> Checked
     ensures { λ r. ⌜ r ≡ (before ⟫ unless (keeps f) (Field n)) ⌝ }
 {
-    if let Checked::Refused(r) = before {
-        return Checked::Refused(r);
-    }
-    match f.rule() {
-        Rule::Kept => Checked::Passed,
-        Rule::Broken => Checked::Refused(Refusal::Field(n)),
-    }
+    let kept = match f.rule() {
+        Rule::Kept => true,
+        Rule::Broken => false,
+    };
+    refusals::noted(before, kept, Refusal::Field(n))
 }
 
 // Tests 20, 3 and 4 in their order. The first bad line ends the look, so test 4 is answered only where every line is good. Each
