@@ -1,12 +1,10 @@
 -- What stands at the front of a run: nothing, an item and the rest behind it, or a broken one. Assumes nothing.
-use mathlib.Core.Path.{_≡_, refl, sym, ap, _∙_}
+use mathlib.Core.Path.{_≡_, refl, ap}
 use mathlib.Core.List.{List, [], _∷_}
 use Prim.Native.Nat.{ℕ, zero, suc, _≤_, _<_}
 use native.Mathlib.Omega.{arith}
-use lib.Dec.{leb}
 use lib.ListN.{length, take, drop, length-drop}
 use borrow.Author.Tests.{le-leb, lt-leb}
-use Rattle.logic.proofs.Tests.{by-test}
 use Rattle.settings.specs.Runs.{Item, holds, broken, firstItems, items}
 
 -- a run has no more items than bytes
