@@ -1,3 +1,4 @@
 pub mod Runs
+pub mod Form
 pub mod Passes
 pub mod Cases

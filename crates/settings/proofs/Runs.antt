@@ -1,9 +1,10 @@
 -- What stands at the front of a run: nothing, an item and the rest behind it, or a broken one. Assumes nothing.
 use mathlib.Core.Path.{_≡_, refl, ap}
-use mathlib.Core.List.{List, [], _∷_}
+use mathlib.Core.List.{List, [], _∷_, _++_}
 use Prim.Native.Nat.{ℕ, zero, suc, _≤_, _<_}
 use native.Mathlib.Omega.{arith}
-use lib.ListN.{length, take, drop, length-drop}
+use lib.ListN.{length, take, drop, length-append, length-drop}
+use lib.Seq.{take-append-seam, drop-append-seam}
 use borrow.Author.Tests.{le-leb, lt-leb}
 use Rattle.settings.specs.Runs.{Item, holds, broken, firstItems, items}
 
@@ -40,3 +41,8 @@ module _ (t z : ℕ) (s : List ℕ) where
   pub items-past : length s < z → items (t ∷ z ∷ s) ≡ broken ∷ []
   unfolding items firstItems
   items-past h = rw (lt-leb z (length s) h)
+
+-- an item that is written in front of a run
+pub items-front : (t : ℕ) (v s : List ℕ) → items (t ∷ length v ∷ (v ++ s)) ≡ holds t v ∷ items s
+items-front t v s =
+    rw (items-holds t (length v) (v ++ s) (omega (arith, length-append v s)), take-append-seam v s, drop-append-seam v s)
