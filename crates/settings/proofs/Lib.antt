@@ -1,4 +1,5 @@
 pub mod Runs
 pub mod Form
+pub mod Stepped
 pub mod Passes
 pub mod Cases
