@@ -1,5 +1,6 @@
 pub mod Runs
 pub mod Form
 pub mod Stepped
+pub mod Units
 pub mod Passes
 pub mod Cases
