@@ -16,7 +16,7 @@ use Rattle.lists.specs.Lists.{head, records, listOf}
 use Rattle.lists.specs.Facts.{related}
 use Rattle.lists.specs.Tests.{test3, test4, newNumber, test5, relatedInterval, test6}
 use Rattle.settings.specs.Runs.{firstItems, items}
-use Rattle.settings.specs.Encodings.{numberFrom, valuesOf, callOf, call, allFour, sound, complete}
+use Rattle.settings.specs.Encodings.{numberFrom, number, valuesOf, callOf, call, allFour, sound, complete}
 use Rattle.settings.specs.Slots.{Channel, channel, roundedUp, wholeSlots, flowFor, flowsFor, flowsFrom, flowsAsked}
 use Rattle.settings.specs.Tests.{test26, test23, test24, test25, settingsTests, settingsAnswer}
 
@@ -66,13 +66,18 @@ pub worked : flowsAsked slots (voice 2) ≡ flow 1 15 160 6 ∷ flow 2 15 160 6 
 unfolding firstItems items numberFrom valuesOf callOf call roundedUp flowFor flowsFor flowsFrom flowsAsked
 worked = refl
 
+-- the most significant byte first
+pub worked-number : number (1 ∷ 2 ∷ 3 ∷ 4 ∷ []) ≡ 16909060
+unfolding numberFrom
+worked-number = refl
+
 -- a channel, a run, the bytes of the room, and the answer
 abbrev answers : List (Channel × List ℕ × ℕ × Written)
 answers =
     (slots, voice 2, 16, Bytes 16)
     ∷ (slots, voice 2 ++ voice 1, 30, Bytes 22)
-    -- other settings are stepped over: types 0, 255 and 23
-    ∷ (slots, encoding (0 ∷ 0 ∷ 255 ∷ 1 ∷ 19 ∷ (four 232 78 32 2 ++ (23 ∷ 2 ∷ 22 ∷ 1 ∷ []))), 16, Bytes 16)
+    -- other settings are stepped over: types 0, 255, 23 and 24
+    ∷ (slots, encoding (0 ∷ 0 ∷ 255 ∷ 1 ∷ 19 ∷ (four 232 78 32 2 ++ (23 ∷ 2 ∷ 22 ∷ 1 ∷ 24 ∷ 0 ∷ []))), 16, Bytes 16)
     -- 26, either value
     ∷ (channel 0 16, voice 2, 16, Stopped NoChannel)
     ∷ (channel 125 0, voice 2, 16, Stopped NoChannel)
@@ -93,10 +98,11 @@ answers =
     ∷ (slots, voice 2 ++ encoding (size 232 ++ (interval 78 32 ++ grants 2)), 28, Stopped (MissingSetting 2))
     -- 25
     ∷ (slots, voice 2 ++ odd 2, 28, Stopped (NotWhole 2))
-    -- 3: nothing, no grant, and too many
+    -- 3: nothing, no grant, and too many; 128 are taken
     ∷ (slots, [], 16, Stopped Count)
     ∷ (slots, voice 0, 16, Stopped Count)
-    ∷ (slots, voice 255, 774, Stopped Count)
+    ∷ (slots, voice 255, 1534, Stopped Count)
+    ∷ (slots, voice 128, 772, Bytes 772)
     -- 4: no bytes, and an interval of 0, which is whole
     ∷ (slots, voice 2 ++ encoding (four 0 78 32 1), 22, Stopped (Field 3))
     ∷ (slots, encoding (four 232 0 0 2), 16, Stopped (Field 1))
@@ -117,4 +123,4 @@ answers =
 -- each is answered by what stands beside it
 pub worked-answers : All (λ c. settingsAnswer (c .0) (c .1) (c .2) ≡ c .3) answers
 unfolding packed packedFlow keeps every lowest against answer head records listOf related test3 test4 newNumber test5 relatedInterval test6 firstItems items numberFrom valuesOf callOf call allFour sound complete roundedUp wholeSlots flowFor flowsFor flowsFrom flowsAsked test26 test23 test24 test25 settingsTests
-worked-answers = (refl, (refl, (refl, (refl, (refl, (refl, (refl, (refl, (refl, (refl, (refl, (refl, (refl, (refl, (refl, (refl, (refl, (refl, (refl, (refl, (refl, (refl, (refl, (refl, (refl, (refl, (refl, (refl, (refl, (refl, (refl, tt)))))))))))))))))))))))))))))))
+worked-answers = (refl, (refl, (refl, (refl, (refl, (refl, (refl, (refl, (refl, (refl, (refl, (refl, (refl, (refl, (refl, (refl, (refl, (refl, (refl, (refl, (refl, (refl, (refl, (refl, (refl, (refl, (refl, (refl, (refl, (refl, (refl, (refl, tt))))))))))))))))))))))))))))))))
