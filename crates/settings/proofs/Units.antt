@@ -84,6 +84,7 @@ module _ (ch : Channel) (some : test26 ch ≡ Passed) (i : Item) (whole : wholeS
         jitter-most = omega (arith, div-add-mod' (amount (c .jitter)) t, mod-lt (amount (c .jitter)) (pos .0));
       }
 
+  -- however many
   all-fulfil : (n k : ℕ) → All (Fulfils ch (amounts i)) (flowsFor ch n (call i) k)
   unfolding flowsFor
   all-fulfil n zero = tt
@@ -138,8 +139,8 @@ numbered ch s = from-numbered ch 1 (items s)
 
 -- ---- no other flows do
 
--- a channel with both values
-module _ (ch : Channel) (time : 0 < ch .microseconds) (room : 0 < ch .bytes) where
+-- a slot length that is not zero is all that this needs of the channel
+module _ (ch : Channel) (time : 0 < ch .microseconds) where
   module _ (a : Amounts) where
     -- interval and jitter are quotients
     interval-is : (f : Flow) → Fulfils ch a f → a .interval / ch .microseconds ≡ f .interval
