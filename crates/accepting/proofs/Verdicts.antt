@@ -3,14 +3,13 @@ use mathlib.Core.Path.{_≡_, sym, ap, _∙_}
 use mathlib.Core.Bool.{Bool, true, false}
 use mathlib.Core.List.{List}
 use Prim.Native.Nat.{ℕ}
-use Rattle.logic.specs.Numbers.{among}
-use Rattle.refusals.specs.declared.Refusal.the-variants.{Head, Count}
+use Rattle.refusals.specs.declared.Refusal.the-variants.{Head}
 use Rattle.refusals.specs.declared.Checked.{Checked}
 use Rattle.refusals.specs.declared.Checked.the-variants.{Passed, Refused}
 use Rattle.refusals.specs.Tests.{_⟫_}
 use Rattle.refusals.proofs.Chains.{unless-yes, unless-no, chain-assoc}
 use Rattle.lists.specs.Lists.{flowsOf}
-use Rattle.lists.specs.Tests.{test2, test3, newNumber, test5, relatedInterval, test6, test7, tests1to4, tests1to7}
+use Rattle.lists.specs.Tests.{test2, newNumber, test5, relatedInterval, test6, test7, tests1to4, tests1to7}
 use Rattle.accepting.specs.Parts.{headed}
 use Rattle.pairing.specs.Parts.{pairTests}
 
@@ -23,16 +22,6 @@ module _ (l : List ℕ) (b : Bool) (e : b ≡ headed l) where
   pub list-head : b ≡ true → test2 l ≡ Passed
   unfolding test2
   list-head y = unless-yes (headed l) Head (sym e ∙ y)
-
--- test 3, of a count that is or is not 1 to 128
-module _ (n : ℕ) (b : Bool) (e : b ≡ among 1 128 n) where
-  pub many : b ≡ false → test3 n ≡ Refused Count
-  unfolding test3
-  many z = unless-no (among 1 128 n) Count (sym e ∙ z)
-
-  pub few : b ≡ true → test3 n ≡ Passed
-  unfolding test3
-  few y = unless-yes (among 1 128 n) Count (sym e ∙ y)
 
 -- tests 5 and 6 between those before and test 7
 pub in-order : (l : List ℕ) → tests1to7 l ≡ (tests1to4 l ⟫ (pairTests (flowsOf l) ⟫ test7 (flowsOf l)))

@@ -1,6 +1,5 @@
 // Document 01's tests of a packed list, in their order.
 ghost use mathlib.Core.Path.{_≡_};
-ghost use Rattle.logic.specs.Numbers.{among};
 ghost use Rattle.refusals.specs.Tests.{_⟫_};
 ghost use Rattle.lists.specs.Lists.{count, flowsOf};
 ghost use Rattle.lists.specs.Tests.{test1, test2, test3, test1exact, test4, test7, tests1to4, tests1to7};
@@ -10,6 +9,7 @@ use fields::Kind;
 use flows::Rule;
 use flows::times;
 use lists::count;
+use lists::few;
 use lists::flow_at;
 use pairing::pair_tests;
 use refusals::Checked;
@@ -28,16 +28,6 @@ fn headed(list: &[u8]) -> bool
         return false;
     }
     values[2] == 0
-}
-
-// A list has 1 to 128 flows.
-fn few(n: usize) -> bool
-    ensures { λ r. ⌜ r ≡ among 1 128 n ⌝ }
-{
-    if n < 1 {
-        return false;
-    }
-    n <= 128
 }
 
 // Tests 1 to 3, and 1 again for the exact length: all that the head and the length tell.

@@ -1,6 +1,6 @@
 -- What the tests of a list answer, both ways. Assumes nothing.
 use mathlib.Core.Path.{_≡_, sym, ap, _∙_}
-use mathlib.Core.Bool.{Bool, true, _&&_}
+use mathlib.Core.Bool.{Bool, true, false, _&&_}
 use mathlib.Core.Logic.{_↔_}
 use mathlib.Core.List.{List}
 use Prim.Native.Nat.{ℕ, _/_, _≤_, _<_}
@@ -17,7 +17,7 @@ use Rattle.refusals.specs.declared.Refusal.the-variants.{Length, Head, Count, F
 use Rattle.refusals.specs.declared.Checked.{Checked}
 use Rattle.refusals.specs.declared.Checked.the-variants.{Passed, Refused}
 use Rattle.refusals.specs.Tests.{unless, _⟫_}
-use Rattle.refusals.proofs.Chains.{unless-no, unless-passed, chain-assoc}
+use Rattle.refusals.proofs.Chains.{unless-yes, unless-no, unless-passed, chain-assoc}
 use Rattle.refusals.proofs.Entries.{each-passed}
 use Rattle.lists.specs.Lists.{headOf, count, place, flowsOf}
 use Rattle.lists.specs.Facts.{cycle, frame, grants}
@@ -84,6 +84,16 @@ few n h = rw (le-leb 1 n (h .0), le-leb n 128 (h .1))
 pub few-passed : (n : ℕ) → test3 n ≡ Passed → Few n
 unfolding test3
 few-passed n e = few-says n (unless-passed (among 1 128 n) Count e)
+
+-- and of a count that is asked
+module _ (n : ℕ) (b : Bool) (e : b ≡ among 1 128 n) where
+  pub count-refused : b ≡ false → test3 n ≡ Refused Count
+  unfolding test3
+  count-refused z = unless-no (among 1 128 n) Count (sym e ∙ z)
+
+  pub count-passed : b ≡ true → test3 n ≡ Passed
+  unfolding test3
+  count-passed y = unless-yes (among 1 128 n) Count (sym e ∙ y)
 
 -- at most 256 frames and at most 1,024 grants
 abbrev pub Limited : List Flow → Type 0

@@ -1,6 +1,6 @@
 -- A list written: its head and its records, each at its place. Assumes nothing.
 use mathlib.Core.Path.{_≡_, refl, sym, ap, _∙_}
-use mathlib.Core.List.{List, [], _∷_, _++_}
+use mathlib.Core.List.{List, [], _∷_, _++_, append-assoc}
 use Prim.Native.Nat.{ℕ, _+_, _≤_, _<_}
 use native.Mathlib.Omega.{arith}
 use lib.Dec.{lit<}
@@ -44,6 +44,11 @@ records-none = refl
 pub records-is : (f : Flow) (fs : List Flow) → records (f ∷ fs) ≡ packedFlow f ++ records fs
 unfolding records
 records-is f fs = refl
+
+pub records-both : (fs gs : List Flow) → records (fs ++ gs) ≡ records fs ++ records gs
+unfolding records
+records-both [] gs = refl
+records-both (f ∷ fs) gs = ap (λ (r : List ℕ). packedFlow f ++ r) (records-both fs gs) ∙ sym (append-assoc (packedFlow f) (records fs) (records gs))
 
 -- the head, and the records behind it
 pub list-written : (fs : List Flow) (room : List ℕ) → length (listOf fs) ≤ length room

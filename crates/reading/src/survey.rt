@@ -10,6 +10,7 @@ ghost use Rattle.sheets.specs.Reader.{Recorded};
 use crate::line::line_at;
 use flows::Flow;
 use flows::Rule;
+use lists::few;
 use refusals::Checked;
 use refusals::Refusal;
 use sheets::Line;
@@ -47,10 +48,7 @@ pub(crate) fn survey_of(sheet: &[u8], list: &mut [u8]) -> Survey
         rules = ruled(rules, f, n);
         at = got.end;
     }
-    if n < 1 {
-        return Survey::Refused(Refusal::Count);
-    }
-    if 128 < n {
+    if !few(n) {
         return Survey::Refused(Refusal::Count);
     }
     if let Checked::Refused(r) = rules {

@@ -50,7 +50,7 @@ module _ (a b : ℕ) (pos : 0 < b) where
 
 module _ (ch : Channel) (c : Call) where
   -- as many as grants
-  length-for : (n k : ℕ) → length (flowsFor ch n c k) ≡ k
+  pub length-for : (n k : ℕ) → length (flowsFor ch n c k) ≡ k
   unfolding flowsFor
   length-for n zero = refl
   length-for n (suc k) = ap suc (length-for (suc n) k)
@@ -62,7 +62,7 @@ module _ (ch : Channel) (c : Call) where
   numbered-for n (suc k) = (refl, numbered-for (suc n) k)
 
 -- a channel that passes 26 has both values
-channel-pos : (ch : Channel) → test26 ch ≡ Passed → (0 < ch .microseconds) × (0 < ch .bytes)
+pub channel-pos : (ch : Channel) → test26 ch ≡ Passed → (0 < ch .microseconds) × (0 < ch .bytes)
 unfolding test26
 channel-pos ch e =
     let a = and-both (ltb 0 (ch .microseconds)) (ltb 0 (ch .bytes)) (unless-passed _ NoChannel e) in

@@ -11,19 +11,23 @@ use Rattle.settings.specs.declared.Said.the-variants.{Missing, Is, Bad}
 use Rattle.settings.specs.declared.Call.{Call}
 use Rattle.settings.specs.Runs.{Item, holds, broken, items, whole}
 
--- the published types: the encoding, and inside it the four settings
+-- the published types: an upstream service flow encoding
 abbrev pub upstream : ℕ
 upstream = 24
 
+-- inside it unsolicited grant size, 2 bytes
 abbrev pub grantSize : ℕ
 grantSize = 19
 
+-- nominal grant interval, 4 bytes
 abbrev pub nominalInterval : ℕ
 nominalInterval = 20
 
+-- tolerated grant jitter, 4 bytes
 abbrev pub toleratedJitter : ℕ
 toleratedJitter = 21
 
+-- and grants per interval, 1 byte
 abbrev pub grantsPerInterval : ℕ
 grantsPerInterval = 22
 

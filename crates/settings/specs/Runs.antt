@@ -30,7 +30,7 @@ abbrev pub whole : Item → Bool
 whole (holds type value) = true
 whole broken = false
 
--- the bytes of items: the run that says them
+-- the bytes of items: the run that says them; a broken item has none
 unfoldable pub encoded : List Item → List ℕ
 encoded [] = []
 encoded (holds type value ∷ is) = type ∷ length value ∷ (value ++ encoded is)

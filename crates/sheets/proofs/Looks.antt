@@ -11,8 +11,8 @@ use Rattle.refusals.specs.declared.Refusal.the-variants.{Field, Line as AtLine}
 use Rattle.refusals.specs.declared.Checked.{Checked}
 use Rattle.refusals.specs.declared.Checked.the-variants.{Passed, Refused}
 use Rattle.refusals.specs.Tests.{_⟫_, unless, lowest}
-use Rattle.refusals.proofs.Chains.{chain-assoc, chain-passed}
-use Rattle.refusals.proofs.Lowest.{lowest-first, lowest-next, lowest-here}
+use Rattle.refusals.proofs.Chains.{chain-passed}
+use Rattle.refusals.proofs.Lowest.{lowest-next, lowest-here, lowest-noted}
 use Rattle.lists.specs.Tests.{test4}
 use Rattle.sheets.specs.declared.line.Line.the-variants.{Of, Bad}
 use Rattle.sheets.specs.declared.line.LineAt.{LineAt}
@@ -64,7 +64,6 @@ module _ (s : List ℕ) (at n : ℕ) (rules : Checked) (look : LookAt s at n rul
               (lowest-next AtLine (n + 1) true (map ofForm (readings (drop (x .end) s))) refl);
           rules-left =
               look .rules-left ∙ rw next
-              (ap (λ (a : Checked). rules ⟫ a) (lowest-first Field (n + 1) (keeps f) (map keeps (flowsIn (drop (x .end) s))))
-              ∙ sym (chain-assoc rules (unless (keeps f) (Field (n + 1))) _)
+              (lowest-noted Field (n + 1) (keeps f) (map keeps (flowsIn (drop (x .end) s))) rules
               ∙ ap (λ (a : Checked). a ⟫ lowest Field (n + 1 + 1) (map keeps (flowsIn (drop (x .end) s)))) (sym r));
         }

@@ -8,8 +8,8 @@ use Rattle.logic.specs.Numbers.{among}
 use Rattle.refusals.specs.declared.Checked.the-variants.{Passed}
 use Rattle.lists.specs.Lists.{count}
 use Rattle.lists.specs.Tests.{test1, test2}
-use Rattle.lists.proofs.Verdicts.{short, long, inexact, exact}
-use Rattle.accepting.proofs.Verdicts.{other-head, list-head, many, few}
+use Rattle.lists.proofs.Verdicts.{short, long, inexact, exact, count-refused, count-passed}
+use Rattle.accepting.proofs.Verdicts.{other-head, list-head}
 use Rattle.accepting.proofs.chain.head_tests.Statement.{statement}
 use Rattle.accepting.proofs.chain.head_tests.Tie as tie
 
@@ -40,7 +40,7 @@ few-is c = c .few .ensures ∙ ap (among 1 128) (c .before .count .ensures .0)
 returns-3 : tie.Need-returns-3
 returns-3 c =
     let f = c .before in
-    rw (is-long (f .before .before .before .before), is-headed (f .before .before), many _ _ (few-is f) (not-true _ (c .if3 .taken)))
+    rw (is-long (f .before .before .before .before), is-headed (f .before .before), count-refused _ _ (few-is f) (not-true _ (c .if3 .taken)))
 
 mul-if4 : tie.Need-mul-if4
 mul-if4 c = search needs
@@ -52,13 +52,13 @@ returns-4 : tie.Need-returns-4
 returns-4 c =
     let f = c .before .before in
     let l = f .before .before .before .before .before .before .args .list .now in
-    rw (is-long (f .before .before .before .before), is-headed (f .before .before), few _ _ (few-is f) (not-false _ (c .before .if3 .left)), inexact l (λ h. c .if4 .taken (omega (arith, h, f .before .count .ensures .0))))
+    rw (is-long (f .before .before .before .before), is-headed (f .before .before), count-passed _ _ (few-is f) (not-false _ (c .before .if3 .left)), inexact l (λ h. c .if4 .taken (omega (arith, h, f .before .count .ensures .0))))
 
 returns-5 : tie.Need-returns-5
 returns-5 c =
     let f = c .before .before in
     let l = f .before .before .before .before .before .before .args .list .now in
-    rw (is-long (f .before .before .before .before), is-headed (f .before .before), few _ _ (few-is f) (not-false _ (c .before .if3 .left)), exact l (omega (arith, c .if4 .left, f .before .count .ensures .0)))
+    rw (is-long (f .before .before .before .before), is-headed (f .before .before), count-passed _ _ (few-is f) (not-false _ (c .before .if3 .left)), exact l (omega (arith, c .if4 .left, f .before .count .ensures .0)))
 
 pub head-tests-spec : {M : Type 1} → statement M
 head-tests-spec =

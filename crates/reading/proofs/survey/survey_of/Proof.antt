@@ -1,12 +1,14 @@
 -- `reading::survey::survey_of` meets its contract.
 -- Assumes nothing.
-use mathlib.Core.Path.{_≡_, refl, _∙_}
+use mathlib.Core.Path.{_≡_, refl, ap, _∙_}
 use Prim.Native.Nat.{_-_}
 use native.Mathlib.Omega.{arith}
 use lib.ListN.{length}
+use borrow.Author.Tests.{not-true, not-false}
+use Rattle.logic.specs.Numbers.{among}
 use Rattle.refusals.specs.declared.Checked.the-variants.{Passed}
 use Rattle.lists.specs.Tests.{test4}
-use Rattle.lists.proofs.Verdicts.{not-few, few}
+use Rattle.lists.proofs.Verdicts.{count-refused, count-passed}
 use Rattle.sheets.specs.Readings.{flowsIn}
 use Rattle.sheets.specs.Tests.{test20, sheetTests}
 use Rattle.sheets.proofs.Walk.{line-within}
@@ -89,37 +91,38 @@ seen : (c : tie.After-loop Inv-loop μ-loop) → let l = c .before in
     (l .loop .n ≡ length (flowsIn s)) × (test20 s ≡ Passed) × (test4 (flowsIn s) ≡ l .loop .rules)
 seen c = let l = c .before in look-end (l .before .before .before .args .sheet .now) _ _ _ (l .loop .inv .0) (omega (arith, c .loop-test .left))
 
+few-requires : tie.Need-few-requires Inv-loop μ-loop
+few-requires c κs = search needs
+
+-- what is asked of n is asked of the lines
+asked : (c : tie.After-few Inv-loop μ-loop) → let l = c .before .before in
+    c .few .result ≡ among 1 128 (length (flowsIn (l .before .before .before .args .sheet .now)))
+asked c = c .few .ensures ∙ ap (among 1 128) (seen (c .before) .0)
+
 -- there are as many lines as may be, so test 4 answers
-rule : (c : tie.Else2 Inv-loop μ-loop) → let l = c .before .before .before in
+rule : (c : tie.Else1 Inv-loop μ-loop) → let l = c .before .before .before in
     sheetTests (l .before .before .before .args .sheet .now) ≡ l .loop .rules
 rule c =
     let end = seen (c .before .before) in
-    rule-answers _ (end .1) (few _ (omega (arith, c .before .if1 .left, end .0), omega (arith, c .if2 .left, end .0))) ∙ end .2
+    rule-answers _ (end .1) (count-passed _ _ (asked (c .before)) (not-false _ (c .if1 .left))) ∙ end .2
 
 same-length-2 : tie.Need-same-length-2 Inv-loop μ-loop
-same-length-2 c = c .before .before .loop .inv .1
+same-length-2 c = c .before .before .before .loop .inv .1
 
 returns-2 : tie.Need-returns-2 Inv-loop μ-loop
 returns-2 c =
-    let end = seen (c .before) in
-    found-refused _ (c .before .before .before .before .before .args .list .now) _ _ (count-answers _ (end .1) _ (not-few _ (λ h. omega (arith, c .if1 .taken, end .0, h .0))))
-
-same-length-3 : tie.Need-same-length-3 Inv-loop μ-loop
-same-length-3 c = c .before .before .before .loop .inv .1
-
-returns-3 : tie.Need-returns-3 Inv-loop μ-loop
-returns-3 c =
-    let end = seen (c .before .before) in
-    found-refused _ (c .before .before .before .before .before .before .args .list .now) _ _ (count-answers _ (end .1) _ (not-few _ (λ h. omega (arith, c .if2 .taken, end .0, h .1))))
+    let f = c .before in
+    found-refused _ (f .before .before .before .before .before .args .list .now) _ _
+    (count-answers _ (seen (f .before) .1) _ (count-refused _ _ (asked f) (not-true _ (c .if1 .taken))))
 
 enum-known-rules : tie.Need-enum-known-rules Inv-loop μ-loop
 enum-known-rules c = search needs
 
-same-length-4 : tie.Need-same-length-4 Inv-loop μ-loop
-same-length-4 c = c .before .before .before .before .before .before .loop .inv .1
+same-length-3 : tie.Need-same-length-3 Inv-loop μ-loop
+same-length-3 c = c .before .before .before .before .before .before .loop .inv .1
 
-returns-4 : tie.Need-returns-4 Inv-loop μ-loop
-returns-4 c =
+returns-3 : tie.Need-returns-3 Inv-loop μ-loop
+returns-3 c =
     let o = c .before in
     let i = o .before .before in
     found-refused _ (i .before .before .before .before .before .before .args .list .now) _ _ (rule i ∙ o .rules .given .1)
@@ -127,11 +130,11 @@ returns-4 c =
 enum-told-2 : tie.Need-enum-told-2 Inv-loop μ-loop
 enum-told-2 c = search needs
 
-same-length-5 : tie.Need-same-length-5 Inv-loop μ-loop
-same-length-5 c = c .before .before .before .before .before .loop .inv .1
+same-length-4 : tie.Need-same-length-4 Inv-loop μ-loop
+same-length-4 c = c .before .before .before .before .before .loop .inv .1
 
-returns-5 : tie.Need-returns-5 Inv-loop μ-loop
-returns-5 c =
+returns-4 : tie.Need-returns-4 Inv-loop μ-loop
+returns-4 c =
     let i = c .before .before in
     let e = i .before .before in
     let l = e .before in
@@ -158,13 +161,12 @@ survey-of-spec =
     ruled-requires
     loop-less
     loop-again
+    few-requires
     same-length-2
     returns-2
+    enum-known-rules
     same-length-3
     returns-3
-    enum-known-rules
-    same-length-4
-    returns-4
     enum-told-2
-    same-length-5
-    returns-5)
+    same-length-4
+    returns-4)

@@ -1,8 +1,8 @@
--- `accepting::chain::few` meets its contract.
+-- `lists::limits::few` meets its contract.
 -- Assumes nothing.
 use borrow.Author.Tests.{lt-leb, le-leb}
-use Rattle.accepting.proofs.chain.few.Statement.{statement}
-use Rattle.accepting.proofs.chain.few.Tie as tie
+use Rattle.lists.proofs.limits.few.Statement.{statement}
+use Rattle.lists.proofs.limits.few.Tie as tie
 
 returns : tie.Need-returns
 returns c = rw (lt-leb 1 _ (c .if1 .taken))
