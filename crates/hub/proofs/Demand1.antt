@@ -4,7 +4,7 @@
 -- an operation's statement allows are equal. Assumes nothing.
 use mathlib.Core.Path.{_≡_, refl, sym, ap, ap₂, _∙_}
 use mathlib.Core.Logic.{_⊎_, ⊎-elim, _↔_}
-use mathlib.Core.List.{List, [], _∷_, _++_}
+use mathlib.Core.List.{List, [], _∷_, _++_, map}
 use Prim.Native.Nat.{ℕ, _≤_, _<_}
 use native.Mathlib.Omega.{arith}
 use lib.Dec.{leb}
@@ -17,14 +17,14 @@ use Rattle.flows.specs.Flows.{newFlow}
 use Rattle.refusals.specs.declared.Refusal.{Refusal}
 use Rattle.refusals.specs.declared.Checked.{Checked}
 use Rattle.refusals.specs.declared.Checked.the-variants.{Passed, Refused}
-use Rattle.refusals.specs.declared.Refusal.the-variants.{Room}
+use Rattle.refusals.specs.declared.Refusal.the-variants.{Room, Encoding, MissingSetting, NotWhole}
 use Rattle.refusals.specs.declared.Written.{Written}
 use Rattle.refusals.specs.declared.Written.the-variants.{Bytes, Refused as Stopped}
 use Rattle.refusals.specs.Tests.{_⟫_}
 use Rattle.refusals.specs.Answers.{answer, written}
-use Rattle.refusals.specs.First.{inOrder, FirstFault}
+use Rattle.refusals.specs.First.{inOrder, FirstFault, LowestPlace}
 use Rattle.refusals.proofs.Chains.{chain-assoc, unless-passed}
-use Rattle.refusals.proofs.Exactly.{first-fault}
+use Rattle.refusals.proofs.Exactly.{first-fault, lowest-place}
 use Rattle.lists.specs.Lists.{flowsOf, listOf}
 use Rattle.lists.specs.Facts.{grants}
 use Rattle.lists.specs.Tests.{test3, test4, test5, test6, test7, tests1to4, tests1to7}
@@ -40,8 +40,12 @@ use Rattle.planner.specs.Plan.{test8, test9, test10, planTests, planTable, plan
 use Rattle.offsets.specs.declared.Added.{Added}
 use Rattle.offsets.specs.declared.Added.the-variants.{Offset, Refused as NotAdded}
 use Rattle.offsets.specs.Adding.{withNew, test9 as bothRooms, test22, newTests, listBytes, tableBytes, addTests, offsetFound, newList, newTable, tableAdded, addAnswer, listRoom as newListRoom, tableRoom as newTableRoom}
-use Rattle.hub.specs.Chains.{chain1to4, chain1to7, planChain, formChain, lawChain, checkChain, windowChain, roomTest, sheetChain, listChain, newChain, addChain}
-use Rattle.hub.specs.Statements.{Writes, Check, Window, LiveAdd}
+use Rattle.settings.specs.Runs.{items}
+use Rattle.settings.specs.Encodings.{sound, complete}
+use Rattle.settings.specs.Slots.{Channel, channel, wholeSlots, flowsAsked}
+use Rattle.settings.specs.Tests.{test26, test23, test24, test25, settingsTests, settingsAnswer}
+use Rattle.hub.specs.Chains.{chain1to4, chain1to7, planChain, formChain, lawChain, checkChain, windowChain, roomTest, sheetChain, listChain, newChain, addChain, settingsChain}
+use Rattle.hub.specs.Statements.{Writes, Check, Window, LiveAdd, ListFromSettings}
 use Rattle.windows.proofs.Contents.{one-stretch}
 use Rattle.planner.proofs.Passes.{plan-answers}
 use Rattle.offsets.proofs.Joining.{length-new-list, length-new-table}
@@ -114,6 +118,14 @@ add-tests l t f n m =
     in-order-append (checkChain l t) _
     ∙ ap₂ _⟫_ (check-tests l t)
     (in-order-append (newChain fs f) _ ∙ ap₂ _⟫_ (new-tests fs f) (last-two (bothRooms fs gs f n m) (test22 fs gs f)))
+
+-- a chain of modem settings is their tests and then the room's
+pub settings-tests : (ch : Channel) (s : List ℕ) (n : ℕ) → inOrder (settingsChain ch s n) ≡ (settingsTests ch s ⟫ roomTest (listOf (flowsAsked ch s)) n)
+unfolding settingsTests inOrder
+settings-tests ch s n =
+    let fs = flowsAsked ch s in
+    in-order-append (test26 ch ∷ test23 s ∷ test24 s ∷ test25 ch s ∷ test3 (length fs) ∷ test4 fs ∷ test5 fs ∷ test6 fs ∷ []) (roomTest (listOf fs) n ∷ [])
+    ∙ rw (one-last (test6 fs), one-last (roomTest (listOf fs) n))
 
 -- ---- each refusal exactly
 
@@ -189,6 +201,25 @@ add-refuses l t f n m r =
     let first = exactly (addChain l t f n m) (addTests l t f n m) (add-tests l t f n m) r in
     (λ h. first .0 (stops .0 h), λ h. stops .1 (first .1 h))
 
+-- modem settings to list refuses exactly by the first of tests 26, 23, 24, 25, 3 to 6 and 9 that finds fault
+pub settings-refuses : (ch : Channel) (s : List ℕ) (n : ℕ) (r : Refusal) → (settingsAnswer ch s n ≡ Stopped r) ↔ FirstFault (settingsChain ch s n) r
+settings-refuses ch s n = writes-exactly (settingsChain ch s n) (settingsTests ch s) (listOf (flowsAsked ch s)) n (settings-tests ch s n)
+
+-- 23 names the first encoding that is not sound
+pub settings-23 : (s : List ℕ) (r : Refusal) → (test23 s ≡ Refused r) ↔ LowestPlace Encoding 1 (map sound (items s)) r
+unfolding test23
+settings-23 s = lowest-place Encoding 1 (map sound (items s))
+
+-- 24 names the first encoding that is not complete
+pub settings-24 : (s : List ℕ) (r : Refusal) → (test24 s ≡ Refused r) ↔ LowestPlace MissingSetting 1 (map complete (items s)) r
+unfolding test24
+settings-24 s = lowest-place MissingSetting 1 (map complete (items s))
+
+-- 25 names the first encoding whose interval is not a whole number of slots
+pub settings-25 : (ch : Channel) (s : List ℕ) (r : Refusal) → (test25 ch s ≡ Refused r) ↔ LowestPlace NotWhole 1 (map (wholeSlots ch) (items s)) r
+unfolding test25
+settings-25 ch s = lowest-place NotWhole 1 (map (wholeSlots ch) (items s))
+
 -- ---- a refusal alters no byte
 
 -- where an operation that writes refuses, its room is as it was
@@ -207,6 +238,12 @@ add-untouched l t number size interval jitter a b a′ b′ r h =
     let f = newFlow number size interval jitter in
     let e : addTests l t f (length a) (length b) ≡ Refused r = add-stops l t f (length a) (length b) r .0 (sym (h .result)) in
     (h .list-bytes ∙ rw e, h .table-bytes ∙ rw e)
+
+-- where modem settings are refused, the room is as it was
+pub settings-untouched : (microseconds bytes : ℕ) (s room room′ : List ℕ) (r : Refusal) → ListFromSettings microseconds bytes s room (Stopped r) room′ → room′ ≡ room
+settings-untouched microseconds bytes s room room′ r h =
+    let ch = channel microseconds bytes in
+    h .bytes ∙ refused-untouched (settingsTests ch s) (listOf (flowsAsked ch s)) room r (sym (h .result))
 
 -- ---- success writes exactly the needed bytes at the front, and the rest stays
 
@@ -247,9 +284,28 @@ add-writes l t number size interval jitter a b a′ b′ o h =
       h .table-bytes ∙ rw (e .0, e .1) (fills (newTable l t f o) b (omega (arith, y .1, length-new-table l t f o))),
     )
 
+-- an operation that makes bytes where its tests pass answers how many they are, and they stand at the front of its room
+answer-writes : (c : Checked) (bs room : List ℕ) (k : ℕ) → answer c bs (length room) ≡ Bytes k → (k ≡ length bs) × (written c bs room ≡ bs ++ drop (length bs) room)
+unfolding answer
+answer-writes (Refused q) bs room k e = let z : _≡_ {A = ℕ} 0 1 = cc in absurd (omega arith)
+answer-writes Passed bs room k e =
+    by-lt (length room) (length bs)
+    (λ h. let z : Stopped Room ≡ Bytes k = rw (lt-ltb (length room) (length bs) h) at e in let z′ : _≡_ {A = ℕ} 0 1 = cc in absurd (omega arith))
+    (λ h. let z : Bytes (length bs) ≡ Bytes k = rw (le-ltb (length room) (length bs) h) at e in (cc, fills bs room h))
+
+-- modem settings to list writes the list of the flows that they ask for, and answers how many bytes it has
+pub settings-writes : (microseconds bytes : ℕ) (s room room′ : List ℕ) (k : ℕ)
+    → ListFromSettings microseconds bytes s room (Bytes k) room′
+    → let l = listOf (flowsAsked (channel microseconds bytes) s) in
+    (k ≡ length l) × (room′ ≡ l ++ drop (length l) room)
+settings-writes microseconds bytes s room room′ k h =
+    let ch = channel microseconds bytes in
+    let w = answer-writes (settingsTests ch s) (listOf (flowsAsked ch s)) room k (sym (h .result)) in
+    (w .0, h .bytes ∙ w .1)
+
 -- ---- any two results that a statement allows are equal
 
--- sheet to list, list to sheet, plan
+-- sheet to list, list to sheet, plan, modem settings to list
 pub writes-once : (answer : ℕ → Written) (after : List ℕ → List ℕ) (room : List ℕ) (r q : Written) (room′ room″ : List ℕ)
     → Writes answer after room r room′ → Writes answer after room q room″ → (r ≡ q) × (room′ ≡ room″)
 writes-once answer after room r q room′ room″ a b = (a .result ∙ sym (b .result), a .bytes ∙ sym (b .bytes))

@@ -18,6 +18,8 @@ use Rattle.windows.specs.Window.{test19}
 use Rattle.law.specs.Check.{test13, test14, test15, test16, test17, test18}
 use Rattle.planner.specs.Plan.{test8, test9, test10}
 use Rattle.offsets.specs.Adding.{withNew, test21, test9 as bothRooms, test22}
+use Rattle.settings.specs.Slots.{Channel, flowsAsked}
+use Rattle.settings.specs.Tests.{test26, test23, test24, test25}
 
 -- 1 to 4 of a list
 abbrev pub chain1to4 : List ℕ → List Checked
@@ -71,3 +73,10 @@ newChain fs f =
 abbrev pub addChain : List ℕ → List ℕ → Flow → ℕ → ℕ → List Checked
 addChain l t f n m =
     checkChain l t ++ (newChain (flowsOf l) f ++ (bothRooms (flowsOf l) (grantsOf t) f n m ∷ test22 (flowsOf l) (grantsOf t) f ∷ []))
+
+-- "26 a channel value of zero comes first, then 23 .., 24 one of the four missing, 25 interval not whole, then 3 to 6 and 9": modem
+-- settings, for a room of n bytes
+abbrev pub settingsChain : Channel → List ℕ → ℕ → List Checked
+settingsChain ch s n =
+    let fs = flowsAsked ch s in
+    test26 ch ∷ test23 s ∷ test24 s ∷ test25 ch s ∷ test3 (length fs) ∷ test4 fs ∷ test5 fs ∷ test6 fs ∷ roomTest (listOf fs) n ∷ []

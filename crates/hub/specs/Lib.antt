@@ -1,4 +1,5 @@
 pub mod Chains
 pub mod Statements
 pub mod NewPair
+pub mod Converted
 pub mod Codes

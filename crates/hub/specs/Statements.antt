@@ -14,6 +14,8 @@ use Rattle.law.specs.Check.{check}
 use Rattle.planner.specs.Plan.{planAnswer, planRoom}
 use Rattle.offsets.specs.declared.Added.{Added}
 use Rattle.offsets.specs.Adding.{addAnswer, listRoom as newListRoom, tableRoom as newTableRoom}
+use Rattle.settings.specs.Slots.{channel}
+use Rattle.settings.specs.Tests.{settingsAnswer, settingsRoom}
 
 -- an operation that writes: r is its answer and room′ the room afterwards
 pub record Writes (answer : ℕ → Written) (after : List ℕ → List ℕ) (room : List ℕ) (r : Written) (room′ : List ℕ) : Type 0 where
@@ -45,3 +47,9 @@ pub record LiveAdd (l t : List ℕ) (number size interval jitter : ℕ) (a b : L
   pub result : r ≡ addAnswer l t (newFlow number size interval jitter) (length a) (length b)
   pub list-bytes : a′ ≡ newListRoom l t (newFlow number size interval jitter) a (length b)
   pub table-bytes : b′ ≡ newTableRoom l t (newFlow number size interval jitter) (length a) b
+
+-- modem settings to list, for a slot length in microseconds and bytes in a slot
+abbrev pub ListFromSettings : (microseconds bytes : ℕ) (s room : List ℕ) (r : Written) (room′ : List ℕ) → Type 0
+ListFromSettings microseconds bytes s room r room′ =
+    let ch = channel microseconds bytes in
+    Writes (settingsAnswer ch s) (settingsRoom ch s) room r room′

@@ -9,6 +9,8 @@ ghost use Rattle.law.specs.Check.{check};
 ghost use Rattle.planner.specs.Plan.{planAnswer, planRoom};
 ghost use Rattle.windows.specs.Window.{edgesOf};
 ghost use Rattle.offsets.specs.Adding.{addAnswer, listRoom as newListRoom, tableRoom as newTableRoom};
+ghost use Rattle.settings.specs.Slots.{channel};
+ghost use Rattle.settings.specs.Tests.{settingsAnswer, settingsRoom};
 ghost use Rattle.hub.specs.Codes.{code, value, checkCode, checkValue, windowCode, windowFirst, windowBytes, addCode, addValue};
 use offsets::Added;
 use refusals::Checked;
@@ -157,4 +159,21 @@ pub extern "C" fn snowploughy_live_add(
         table_room,
     );
     report_added(added, out)
+}
+
+// Modem settings to list, for a slot length in microseconds and bytes in a slot: tests 26, 23, 24, 25, 3 to 6 and 9.
+#[no_mangle]
+pub extern "C" fn snowploughy_list_from_settings(
+    settings: &[u8],
+    slot_microseconds: u64,
+    slot_bytes: u64,
+    room: &mut [u8],
+    out: &mut u64,
+) -> u32
+    ensures number { λ r. ⌜ r ≡ code (settingsAnswer (channel «slot_microseconds» «slot_bytes») (now (settings .entry)) (length (now (room .entry)))) ⌝ }
+    ensures value { λ _. ⌜ now (out .exit) ≡ value (settingsAnswer (channel «slot_microseconds» «slot_bytes») (now (settings .entry)) (length (now (room .entry)))) ⌝ }
+    ensures room { λ _. ⌜ now (room .exit) ≡ settingsRoom (channel «slot_microseconds» «slot_bytes») (now (settings .entry)) (now (room .entry)) ⌝ }
+{
+    let made = converting::list_from_settings(settings, slot_microseconds, slot_bytes, room);
+    report(made, out)
 }

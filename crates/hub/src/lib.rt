@@ -5,6 +5,7 @@ mod c;
 
 pub use adding::live_add;
 pub use checking::check;
+pub use converting::list_from_settings;
 pub use offsets::Added;
 pub use planner::plan;
 pub use printing::sheet_from_list;
