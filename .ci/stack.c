@@ -1,5 +1,5 @@
-/* The deepest stack of each function of the C interface: it is called on a stack of its own that is painted beforehand, on lists and
- * tables that reach every part of it, and the lowest byte that it touched is looked for. */
+/* The deepest stack of each function of the C interface: it is called on a stack of its own that is painted beforehand, on lists,
+ * tables and settings that reach every part of it, and the lowest byte that it touched is looked for. */
 #include <stdio.h>
 #include <string.h>
 #include <ucontext.h>
@@ -16,6 +16,9 @@ static uint64_t sheet_len, list_len, table_len, first, value;
 static uint8_t room[1 << 15], list_room[SNOWPLOUGHY_LIST_BYTES], table_room[SNOWPLOUGHY_TABLE_BYTES];
 static size_t room_len, list_room_len, table_room_len;
 static uint64_t new_number, new_interval;
+static uint8_t settings[128 * 257];
+static size_t settings_len;
+static uint64_t slot_microseconds, slot_bytes;
 
 static void nothing(void) {}
 static void pack(void) { snowploughy_list_from_sheet(sheet, sheet_len, room, room_len, &value); }
@@ -26,6 +29,7 @@ static void window(void) { snowploughy_window(table, table_len, 0, 4096, &first,
 static void add(void) {
     snowploughy_live_add(list, list_len, table, table_len, new_number, 1, new_interval, 0, list_room, list_room_len, table_room, table_room_len, &value);
 }
+static void ask(void) { snowploughy_list_from_settings(settings, settings_len, slot_microseconds, slot_bytes, room, room_len, &value); }
 static void run(void) { call(); }
 
 static size_t depth(void (*f)(void)) {
@@ -66,6 +70,45 @@ static void join(unsigned number, unsigned interval, unsigned cycle) {
     if (table_room_len > sizeof table_room) table_room_len = sizeof table_room;
 }
 
+/* A setting of one type and of four bytes at most. */
+static void put(uint8_t type, unsigned bytes, uint32_t number) {
+    settings[settings_len++] = type;
+    settings[settings_len++] = bytes;
+    while (bytes-- > 0) settings[settings_len++] = number >> 8 * bytes;
+}
+
+/* A run of n encodings that asks for the flows of `make`, each in as many grants and behind as many other settings. */
+static void request(unsigned n, unsigned few, unsigned size, unsigned frame, unsigned cycle, unsigned jitter, unsigned grants, unsigned others) {
+    settings_len = 0;
+    for (unsigned i = 0; i < n; i++) {
+        put(24, 0, 0);
+        size_t front = settings_len;
+        for (unsigned other = 0; other < others; other++) put(15, 3, other);
+        put(19, 2, i < few ? 1 : size);
+        put(20, 4, i < few ? frame : cycle);
+        put(21, 4, i < few ? jitter : 0);
+        put(22, 1, grants);
+        settings[front - 1] = settings_len - front;
+    }
+}
+
+/* The deepest stack of modem settings: as they are, and refused by each test that a change of them or of the channel can bring about. */
+static size_t deepest_request(void) {
+    struct { size_t cut; uint64_t microseconds, bytes; uint8_t grants_type; } changes[] = {
+        {0, 1, 1, 22}, {0, 1, UINT64_MAX, 22}, {1, 1, 1, 22}, {0, 1, 1, 24}, {0, 7, 1, 22}, {0, UINT64_MAX, 1, 22}, {0, 0, 1, 22}, {0, 1, 0, 22}};
+    size_t most = 0, whole = settings_len;
+    for (size_t c = 0; c < sizeof changes / sizeof *changes; c++) {
+        settings_len = whole > changes[c].cut ? whole - changes[c].cut : 0;
+        slot_microseconds = changes[c].microseconds;
+        slot_bytes = changes[c].bytes;
+        /* the last setting of the last encoding is its grants per interval; under another type it is missing */
+        if (whole) settings[whole - 3] = changes[c].grants_type;
+        size_t d = depth(ask);
+        if (d > most) most = d;
+    }
+    return most;
+}
+
 int main(void) {
     struct { const char *name; void (*f)(void); size_t most; } calls[] = {
         {"list_from_sheet", pack, 0}, {"sheet_from_list", print, 0}, {"plan", plan, 0}, {"check", check, 0}, {"window", window, 0}, {"live_add", add, 0}};
@@ -85,6 +128,20 @@ int main(void) {
                 }
             }
     }
+    /* the same flows from settings: 128 of one grant each, one of 128, 128 of too many, with as many other settings as an encoding holds,
+     * and intervals that are not related */
+    unsigned requests[][8] = {{3, 1, 2, 4, 8, 2, 1, 0}, {128, 2, 28, 16, 4096, 15, 1, 0}, {128, 2, 28, 16, 4096, 15, 1, 47}, {1, 0, 28, 16, 4096, 0, 128, 0},
+                              {128, 2, 28, 16, 4096, 15, 255, 0}, {2, 1, 9, 4, 8, 0, 1, 0}, {2, 1, 1, 4, 6, 0, 1, 0}, {0, 0, 0, 0, 0, 0, 0, 0}};
+    size_t deepest = 0;
+    for (size_t r = 0; r < sizeof requests / sizeof *requests; r++) {
+        unsigned *q = requests[r];
+        for (room_len = 0; room_len <= sizeof room; room_len += sizeof room) {
+            request(q[0], q[1], q[2], q[3], q[4], q[5], q[6], q[7]);
+            size_t d = deepest_request() - base;
+            if (d > deepest) deepest = d;
+        }
+    }
     for (size_t c = 0; c < count; c++) printf("stack of snowploughy_%s: %zu bytes\n", calls[c].name, calls[c].most);
+    printf("stack of snowploughy_list_from_settings: %zu bytes\n", deepest);
     return 0;
 }

@@ -45,7 +45,12 @@ enum snowploughy_refusal {
     SNOWPLOUGHY_WINDOW_ENDS = 19,  /* window ends not 0 <= a <= b <= cycle */
     SNOWPLOUGHY_LINE = 20,         /* a sheet line not of its form: line */
     SNOWPLOUGHY_OUTSIDE_SPAN = 21, /* interval below the frame or over the cycle */
-    SNOWPLOUGHY_NO_OFFSET = 22     /* no offset at which the new flow fits */
+    SNOWPLOUGHY_NO_OFFSET = 22,    /* no offset at which the new flow fits */
+    SNOWPLOUGHY_ENCODING = 23,     /* broken encoding, another type at the top, or one of the four settings repeated or of
+                                      wrong length: place is the encoding, counted from 1 */
+    SNOWPLOUGHY_MISSING_SETTING = 24, /* one of the four settings missing: encoding */
+    SNOWPLOUGHY_NOT_WHOLE = 25,    /* interval not a whole number of slots: encoding */
+    SNOWPLOUGHY_NO_CHANNEL = 26    /* slot length or bytes in a slot 0 */
 };
 
 /* Each answers 0 when its work is done, and otherwise the refusal's number.
@@ -65,6 +70,14 @@ uint32_t snowploughy_window(const uint8_t *table, size_t table_len, uint64_t a, 
 uint32_t snowploughy_live_add(const uint8_t *list, size_t list_len, const uint8_t *table, size_t table_len,
                               uint64_t number, uint64_t size, uint64_t interval, uint64_t jitter,
                               uint8_t *list_room, size_t list_room_len, uint8_t *table_room, size_t table_room_len, uint64_t *value);
+
+/* Turns modem settings into a list, for slots of so many microseconds that hold so many bytes. The settings are a run of DOCSIS
+ * upstream service flow encodings (type 24), each with the unsolicited grant size in bytes (19), the nominal grant interval (20)
+ * and the tolerated grant jitter (21) in microseconds and the grants per interval (22); other settings are stepped over. Size
+ * rounds up, jitter rounds down, and as many flows as grants per interval get the next numbers, from 1 on. Answers 0 or the
+ * refusal's number. Done, *value is how many bytes of list stand at the room's front; refused, *value is the place. */
+uint32_t snowploughy_list_from_settings(const uint8_t *settings, size_t settings_len, uint64_t slot_microseconds, uint64_t slot_bytes,
+                                        uint8_t *room, size_t room_len, uint64_t *value);
 
 #ifdef __cplusplus
 }

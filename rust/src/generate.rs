@@ -33,6 +33,12 @@ pub enum Case {
         flow: [u64; 4],
         rooms: [usize; 2],
     },
+    /// The channel as the microseconds and the bytes of a slot.
+    ListFromSettings {
+        settings: Vec<u8>,
+        channel: [u64; 2],
+        room: usize,
+    },
 }
 
 /// The byte that a room holds everywhere before its call.
@@ -48,6 +54,7 @@ impl Case {
             Case::Check { .. } => "check",
             Case::Window { .. } => "window",
             Case::LiveAdd { .. } => "add",
+            Case::ListFromSettings { .. } => "settings",
         }
     }
 
@@ -65,6 +72,9 @@ impl Case {
             Case::LiveAdd { list, table, flow, rooms } => {
                 let rooms = rooms.map(|room| room as u64);
                 (6, [string(list)?, string(table)?].concat(), numbers(&[&flow[..], &rooms[..]].concat())?)
+            }
+            Case::ListFromSettings { settings, channel, room } => {
+                (7, string(settings)?, numbers(&[channel[0], channel[1], *room as u64])?)
             }
         };
         Some([vec![operation], strings, numbers.concat()].concat())
@@ -112,9 +122,17 @@ impl Random {
         choices[self.below(choices.len())]
     }
 
+    /// Puts the items in any order.
+    fn shuffle<T>(&mut self, items: &mut [T]) {
+        for last in (1..items.len()).rev() {
+            let other = self.below(last + 1);
+            items.swap(last, other);
+        }
+    }
+
     /// A random case of any operation.
     pub fn case(&mut self) -> Case {
-        match self.below(8) {
+        match self.below(10) {
             0 => {
                 let sheet = self.sheet();
                 let room = self.room(base::LONGEST_LIST, |room| base::list_from_sheet(&sheet, room));
@@ -139,7 +157,8 @@ impl Random {
                 let (a, b) = self.window(&table);
                 Case::Window { table, a, b }
             }
-            _ => self.live_add(),
+            6 | 7 => self.live_add(),
+            _ => self.list_from_settings(),
         }
     }
 
@@ -309,10 +328,7 @@ impl Random {
     /// Puts the flows in any order and gives them other numbers, each but one time in three.
     fn arrange(&mut self, flows: &mut [Fields]) {
         if !self.one_in(3) {
-            for last in (1..flows.len()).rev() {
-                let other = self.below(last + 1);
-                flows.swap(last, other);
-            }
+            self.shuffle(flows);
         }
         if !self.one_in(3) {
             let step = self.pick(&[1, 7, 100, 500, 1021]);
@@ -777,6 +793,309 @@ impl Random {
             _ => flow[field] = self.pick(&[u64::MAX, 1 << 32, u64::from(u32::MAX), 65_536]),
         }
     }
+
+    // -----------------------------------------------------------------------------------------------------------------
+    // Modem settings
+    // -----------------------------------------------------------------------------------------------------------------
+
+    /// A run of encodings for a channel, half of them as they should be.
+    pub fn list_from_settings(&mut self) -> Case {
+        let mut channel = self.channel();
+        let mut encodings = self.encodings(channel);
+        for _ in 0..self.pick(&[0, 0, 0, 0, 0, 1, 1, 2]) {
+            self.damage_asked(&mut encodings, channel);
+        }
+        let mut run: Vec<_> = encodings.iter().map(|asked| self.settings(asked)).collect();
+        for _ in 0..self.pick(&[0, 0, 0, 0, 0, 0, 1, 2]) {
+            self.damage_settings(&mut run);
+        }
+        let mut settings = run.iter().flat_map(|settings| encoding(settings)).collect();
+        if self.one_in(8) {
+            self.damage_run(&mut settings);
+        }
+        if self.one_in(12) {
+            self.damage_channel(&mut channel);
+        }
+        let room =
+            self.room(base::LONGEST_LIST, |room| base::list_from_settings(&settings, channel[0], channel[1], room));
+        Case::ListFromSettings { settings, channel, room }
+    }
+
+    /// The microseconds and the bytes of a slot.
+    fn channel(&mut self) -> [u64; 2] {
+        let microseconds = match self.below(4) {
+            0 => self.between(1, 1000),
+            _ => self.pick(&[1, 2, 5, 6, 25, 50, 125, 1000]),
+        };
+        let bytes = match self.below(4) {
+            0 => self.between(1, 300),
+            _ => self.pick(&[1, 2, 8, 16, 16, 24, 64]),
+        };
+        [microseconds, bytes].map(u64::from)
+    }
+
+    /// Another channel than that which the encodings are for: a value of 0, any or very large.
+    fn damage_channel(&mut self, channel: &mut [u64; 2]) {
+        let value = &mut channel[self.below(2)];
+        *value = match self.below(8) {
+            0 | 1 => 0,
+            2 => *value + 1,
+            3 => *value * 2,
+            4 => 1,
+            5 => self.pick(&[65_535, 65_536, u64::from(u32::MAX), 1 << 32, (1 << 32) + 1, 1 << 63, u64::MAX]),
+            6 => *value + (1 << self.pick(&[16, 32, 48, 63])),
+            _ => self.next() >> self.below(64),
+        };
+        if self.one_in(20) {
+            *channel = self.pick(&[[0, 0], [u64::MAX, u64::MAX], [1, 1]]);
+        }
+    }
+
+    /// What the encodings of a run ask for, mostly with fields that keep their rules and related intervals: one to six
+    /// of them, or some that come to about 128 flows.
+    fn encodings(&mut self, channel: [u64; 2]) -> Vec<Asked> {
+        let intervals = self.intervals();
+        let tightness = self.below(8);
+        let about_128 = self.one_in(8);
+        let mut flows = if about_128 { self.between(125, 131) } else { self.between(1, 6) };
+        let most_grants = self.pick(&[1, 1, 4, 40, 128, 255]);
+        let mut encodings = Vec::new();
+        while flows > 0 {
+            let interval = self.pick(&intervals);
+            let size = match self.below(4) {
+                0 => self.between(1, interval.min(4095)),
+                _ => self.between(1, interval.min(12)),
+            };
+            let jitter = self.jitter(tightness, interval, interval == intervals[0]);
+            let mut asked = self.asked([size, interval, jitter], channel);
+            if about_128 {
+                asked.grants = self.between(1, most_grants.min(flows)) as u8;
+                flows -= u32::from(asked.grants);
+                // None of this one, now and then.
+                if self.one_in(40) {
+                    encodings.push(Asked { grants: 0, ..asked });
+                }
+            } else {
+                asked.grants = self.pick(&[1, 1, 1, 1, 1, 2, 2, 3, 8, 0]);
+                flows -= 1;
+            }
+            encodings.push(asked);
+        }
+        encodings
+    }
+
+    /// What asks for this size, interval and jitter in slots: the most bytes, the fewest or any, and so of the jitter's
+    /// microseconds. No number is over what its setting can hold.
+    fn asked(&mut self, [size, interval, jitter]: [u32; 3], [microseconds, bytes]: [u64; 2]) -> Asked {
+        let within = |random: &mut Random, slot: u64| match random.below(4) {
+            0 => 0,
+            1 => slot - 1,
+            _ => random.below(slot as usize) as u64,
+        };
+        let size = u64::from(size) * bytes - within(self, bytes);
+        let jitter = u64::from(jitter) * microseconds + within(self, microseconds);
+        Asked {
+            size: size.min(0xFFFF) as u16,
+            interval: interval * microseconds as u32,
+            jitter: jitter as u32,
+            grants: 1,
+        }
+    }
+
+    /// Brings what one encoding asks for to a limit or past it, or spoils what the encodings have to do with one
+    /// another.
+    fn damage_asked(&mut self, encodings: &mut Vec<Asked>, [microseconds, bytes]: [u64; 2]) {
+        let index = self.below(encodings.len());
+        let other = self.pick(encodings);
+        let slot = microseconds as u32;
+        let asked = &mut encodings[index];
+        match self.below(16) {
+            0 => asked.size = self.pick(&[0, 0, 1, 2, 65_534, 65_535]),
+            // The most bytes that the interval's slots hold, or one more.
+            1 | 2 => {
+                let most = u64::from(asked.interval) / microseconds * bytes;
+                asked.size = (most + self.below(2) as u64).min(0xFFFF) as u16;
+            }
+            3 => asked.interval = self.pick(&[0, 1, 4095, 4096, 4097, 8191, 8192]) * slot,
+            4 => asked.interval = self.pick(&[0, 1, u32::MAX, u32::MAX - 1, 1 << 31, 1 << 16]),
+            5 => asked.interval = asked.interval.wrapping_add(self.pick(&[1, u32::MAX])),
+            6 => asked.interval = asked.interval.wrapping_add(self.between(0, slot)),
+            // Unrelated, mostly.
+            7 | 8 => asked.interval = asked.interval.wrapping_add(slot),
+            9 => asked.interval = asked.interval.wrapping_mul(self.between(1, 300)),
+            // The most microseconds that are less than the interval, or one more.
+            10 | 11 => asked.jitter = asked.interval.wrapping_sub(self.between(0, 1)),
+            12 => asked.jitter = self.pick(&[0, 1, u32::MAX, 1 << 31, 8191 * slot, 8192 * slot]),
+            13 => asked.grants = self.pick(&[0, 0, 1, 126, 127, 128, 129, 254, 255]),
+            14 => {
+                for asked in encodings {
+                    asked.grants = 0;
+                }
+            }
+            _ => {
+                let count = self.pick(&[7, 40, 127, 128, 129, 200, 300]);
+                encodings.resize(count, Asked { grants: 1, ..other });
+            }
+        }
+    }
+
+    /// The settings of an encoding: the four in any order, half the time with others among them.
+    fn settings(&mut self, asked: &Asked) -> Vec<Setting> {
+        let mut settings = vec![
+            (19, asked.size.to_be_bytes().to_vec()),
+            (20, asked.interval.to_be_bytes().to_vec()),
+            (21, asked.jitter.to_be_bytes().to_vec()),
+            (22, vec![asked.grants]),
+        ];
+        if self.one_in(2) {
+            let others = self.pick(&[1, 2, 4, 12, 100]);
+            let longest = self.pick(&[0, 1, 4, 4, 12, 234]);
+            while settings.len() < 4 + others {
+                let other = self.other_setting(longest);
+                settings.push(other);
+                if length(&settings) > 255 {
+                    settings.pop();
+                    break;
+                }
+            }
+        }
+        if !self.one_in(4) {
+            self.shuffle(&mut settings);
+        }
+        settings
+    }
+
+    /// A setting that is none of the four, with any value or one that looks like settings itself.
+    fn other_setting(&mut self, longest: usize) -> Setting {
+        let kind = match self.below(3) {
+            0 => self.pick(&[0, 1, 4, 15, 16, 18, 23, 24, 25, 255]),
+            _ => match self.next() as u8 {
+                19..=22 => 43,
+                kind => kind,
+            },
+        };
+        let bytes = self.below(longest + 1);
+        let value = match self.below(3) {
+            0 => (0..bytes).map(|_| self.pick(&[0, 1, 2, 4, 19, 20, 21, 22, 24, 255])).collect(),
+            _ => (0..bytes).map(|_| self.next() as u8).collect(),
+        };
+        (kind, value)
+    }
+
+    /// Leaves out or repeats a setting of an encoding, changes its type or its value's length, or takes it to another
+    /// encoding. The encodings themselves stay whole.
+    fn damage_settings(&mut self, run: &mut [Vec<Setting>]) {
+        let (encoding, other) = (self.below(run.len()), self.below(run.len()));
+        let settings = &mut run[encoding];
+        if settings.is_empty() {
+            return;
+        }
+        let count = settings.len();
+        // Mostly one of the four.
+        let four = settings.iter().position(|setting| (19..=22).contains(&setting.0)).unwrap_or(0);
+        let at = if self.one_in(2) { four } else { self.below(count) };
+        match self.below(10) {
+            0..3 => drop(settings.remove(at)),
+            3 => {
+                let again = settings[at].clone();
+                settings.insert(self.below(count + 1), again);
+            }
+            4 => {
+                // Again with another value, or with one of another length.
+                let mut again = settings[at].clone();
+                again.1 = vec![self.next() as u8; self.pick(&[0, 1, 2, 4])];
+                settings.insert(self.below(count + 1), again);
+            }
+            5 => drop(settings[at].1.pop()),
+            6 => settings[at].1.push(self.pick(&[0, 1, 255])),
+            7 => settings[at].0 = self.pick(&[0, 18, 19, 20, 21, 22, 23, 24, 255]),
+            8 => settings.clear(),
+            _ => {
+                let setting = settings.remove(at);
+                run[other].push(setting);
+            }
+        }
+        while length(&run[encoding]) > 255 || length(&run[other]) > 255 {
+            run[encoding].pop();
+            run[other].pop();
+        }
+    }
+
+    /// Spoils the bytes of a run: cut off, one changed, left out or more, a length off by one, another type.
+    fn damage_run(&mut self, run: &mut Vec<u8>) {
+        if run.is_empty() {
+            return;
+        }
+        let at = self.below(run.len());
+        let (top, inside) = starts(run);
+        match self.below(16) {
+            0 => run.truncate(run.len() - 1),
+            1 => run.truncate(at),
+            2 => run.truncate(self.pick(&top) + self.below(3)),
+            3 => run.clear(),
+            4 => run[at] ^= 1 << self.below(8),
+            5 => run[at] = self.next() as u8,
+            6 => drop(run.remove(at)),
+            7 => run.insert(at, self.pick(&[0, 1, 2, 4, 19, 20, 21, 22, 24, 255])),
+            8 => run.push(self.pick(&[0, 24, 255])),
+            9 => run.extend(self.pick(&[[24, 0], [24, 1], [0, 0], [255, 0]])),
+            10 => run[self.pick(&top)] = self.pick(&[0, 22, 23, 25, 26, 255]),
+            11 | 12 => {
+                let length = &mut run[self.pick(&top) + 1];
+                *length = length.wrapping_add(self.pick(&[1, 1, 2, 254, 255, 255]));
+            }
+            13 | 14 if !inside.is_empty() => {
+                let length = &mut run[self.pick(&inside) + 1];
+                *length = length.wrapping_add(self.pick(&[1, 1, 2, 254, 255, 255]));
+            }
+            _ => {
+                for byte in &mut *run {
+                    if self.one_in(20) {
+                        *byte = self.next() as u8;
+                    }
+                }
+            }
+        }
+    }
+}
+
+/// What an encoding asks for: the size in bytes, the interval and the jitter in microseconds, the grants per interval.
+#[derive(Clone, Copy)]
+struct Asked {
+    size: u16,
+    interval: u32,
+    jitter: u32,
+    grants: u8,
+}
+
+/// A setting's type and value.
+type Setting = (u8, Vec<u8>);
+
+/// The bytes of these settings.
+fn length(settings: &[Setting]) -> usize {
+    settings.iter().map(|(_, value)| 2 + value.len()).sum()
+}
+
+/// The encoding of these settings, which are at most 255 bytes.
+fn encoding(settings: &[Setting]) -> Vec<u8> {
+    let settings: Vec<u8> = settings.iter().flat_map(|(kind, value)| samples::setting(*kind, value)).collect();
+    samples::setting(24, &settings)
+}
+
+/// Where the encodings of a run start, and the settings in them; each with a length that is right.
+fn starts(run: &[u8]) -> (Vec<usize>, Vec<usize>) {
+    let (mut top, mut inside) = (Vec::new(), Vec::new());
+    let mut next = 0;
+    while next < run.len() {
+        top.push(next);
+        let end = next + 2 + usize::from(run[next + 1]);
+        next += 2;
+        while next < end {
+            inside.push(next);
+            next += 2 + usize::from(run[next + 1]);
+        }
+    }
+    (top, inside)
 }
 
 /// The greatest size at which a new flow of this number and interval fits into a pair, 0 if it fits at none.

@@ -39,6 +39,15 @@ extern "C" {
         table_room_len: usize,
         value: *mut u64,
     ) -> u32;
+    fn snowploughy_list_from_settings(
+        settings: *const u8,
+        settings_len: usize,
+        slot_microseconds: u64,
+        slot_bytes: u64,
+        room: *mut u8,
+        room_len: usize,
+        value: *mut u64,
+    ) -> u32;
 }
 
 pub fn list_from_sheet(sheet: &[u8], room: &mut [u8]) -> Result<usize, Refusal> {
@@ -104,6 +113,29 @@ pub fn live_add(
         )
     };
     answer(refused, value).map(|offset| offset as usize)
+}
+
+pub fn list_from_settings(
+    settings: &[u8],
+    slot_microseconds: u64,
+    slot_bytes: u64,
+    room: &mut [u8],
+) -> Result<usize, Refusal> {
+    let mut value = UNSET;
+    // SAFETY: both pointers come with the length of their slice; a shared and a mutable slice do not overlap; `value`
+    // outlives the call.
+    let number = unsafe {
+        snowploughy_list_from_settings(
+            settings.as_ptr(),
+            settings.len(),
+            slot_microseconds,
+            slot_bytes,
+            room.as_mut_ptr(),
+            room.len(),
+            &mut value,
+        )
+    };
+    answer(number, value).map(|bytes| bytes as usize)
 }
 
 /// What a value holds before its call, so that one left unset shows.

@@ -1,4 +1,4 @@
-//! Packed lists, tables and sheets to measure and to test with.
+//! Packed lists, tables, sheets and modem settings to measure and to test with.
 
 use crate::base;
 
@@ -101,4 +101,54 @@ pub fn table(cycle: u32, frame: u32, grants: &[[u32; 3]]) -> Vec<u8> {
         table.extend(&bits.to_be_bytes()[3..]);
     }
     table
+}
+
+/// The slots that the measured settings are for: in microseconds and in bytes.
+pub const CHANNEL: [u64; 2] = [25, 16];
+
+/// Two encodings that ask for three flows: 15/800/32, and 8/400/20 twice.
+pub fn small_settings() -> Vec<u8> {
+    [encoding(232, 20_000, 800, 1), encoding(118, 10_000, 510, 2)].concat()
+}
+
+/// 128 encodings, each with one grant per interval.
+pub fn settings_one_by_one() -> Vec<u8> {
+    settings_of_128(&[])
+}
+
+/// 128 encodings of the greatest length, each with one grant per interval: 40 other settings stand before the four, and
+/// one of what is left behind them.
+pub fn settings_among_others() -> Vec<u8> {
+    let others: Vec<_> = (0..40).map(|index| [1, 4, 6, 15, 16, 23, 35, 43][index % 8]).collect();
+    settings_of_128(&others)
+}
+
+fn settings_of_128(others: &[u8]) -> Vec<u8> {
+    let others: Vec<u8> = others.iter().flat_map(|&kind| setting(kind, &[7; 3])).collect();
+    let after = if others.is_empty() { vec![] } else { setting(4, &[b'a'; 34]) };
+    let asked = |index: u16| four_settings(16 + index, 25 << (9 + index % 4), 3200 + 25 * u32::from(index), 1);
+    (0..128).flat_map(|index| setting(24, &[&others[..], &asked(index), &after].concat())).collect()
+}
+
+/// One encoding with 128 grants per interval.
+pub fn settings_all_in_one() -> Vec<u8> {
+    encoding(64, 102_400, 3200, 128)
+}
+
+/// The upstream service flow encoding that asks for this grant size in bytes, this interval and jitter in microseconds
+/// and so many grants per interval.
+pub fn encoding(size: u16, interval: u32, jitter: u32, grants: u8) -> Vec<u8> {
+    setting(24, &four_settings(size, interval, jitter, grants))
+}
+
+/// The four settings that ask for flows, as they stand in an encoding.
+pub fn four_settings(size: u16, interval: u32, jitter: u32, grants: u8) -> Vec<u8> {
+    let (size, interval) = (setting(19, &size.to_be_bytes()), setting(20, &interval.to_be_bytes()));
+    [size, interval, setting(21, &jitter.to_be_bytes()), setting(22, &[grants])].concat()
+}
+
+/// A setting: its type, its length and its value of at most 255 bytes.
+pub fn setting(kind: u8, value: &[u8]) -> Vec<u8> {
+    let length = u8::try_from(value.len()).expect("a length of one byte");
+    [&[kind, length], value].concat()
 }

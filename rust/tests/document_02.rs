@@ -1,7 +1,11 @@
-//! Live add, request L1 of document 02: cases worked by hand.
+//! Live add and modem settings, requests L1 and L2 of document 02: cases worked by hand.
 
 use harness::base::{self, Refusal};
-use harness::samples::{self, Flow};
+use harness::samples::{self, encoding, four_settings, setting, Flow};
+
+// ---------------------------------------------------------------------------------------------------------------------
+// Live add
+// ---------------------------------------------------------------------------------------------------------------------
 
 /// A list and its table.
 struct Pair {
@@ -317,4 +321,386 @@ fn the_samples_that_are_measured() {
     assert_eq!(last_slots_free.table.len(), 8 + 5 * 612);
     assert_eq!(last_slots_free.add([103, 1, 16, 0]), Ok(15));
     assert_eq!(last_slots_free.add([103, 2, 16, 0]), Err((22, 0)));
+}
+
+// ---------------------------------------------------------------------------------------------------------------------
+// Modem settings
+// ---------------------------------------------------------------------------------------------------------------------
+
+/// The list, or the refusal's number and place.
+type Listed = Result<Vec<u8>, (u32, u64)>;
+
+/// The answer in a room of this length. A refusal writes nothing, and what is not needed stays.
+fn list_in(settings: &[u8], [microseconds, bytes]: [u64; 2], room: usize) -> Listed {
+    let mut room = vec![0xA5; room];
+    let answer = base::list_from_settings(settings, microseconds, bytes, &mut room);
+    let length = answer.unwrap_or(0);
+    assert!(room[length..].iter().all(|&byte| byte == 0xA5), "the rest stays");
+    room.truncate(length);
+    answer.map(|_| room).map_err(|Refusal { number, place }| (number, place))
+}
+
+/// The answer for a run of encodings and a channel, in a room that is longer than needed.
+fn list_of(encodings: &[Vec<u8>], channel: [u64; 2]) -> Listed {
+    list_in(&encodings.concat(), channel, 1000)
+}
+
+/// The list of these flows with the numbers 1, 2, ...
+fn flows(flows: &[Flow]) -> Listed {
+    Ok(samples::list(&samples::numbered(flows)))
+}
+
+/// A channel in which slots are bytes and microseconds.
+const UNITS: [u64; 2] = [1, 1];
+/// A channel with slots of 25 microseconds that hold 16 bytes.
+const SLOTS: [u64; 2] = [25, 16];
+
+/// An encoding that asks for one flow of 1/4/0 where slots are units.
+fn good() -> Vec<u8> {
+    encoding(1, 4, 0, 1)
+}
+
+/// An encoding without its setting of one type.
+fn without(kind: u8) -> Vec<u8> {
+    let kept = [(19, &[0, 1][..]), (20, &[0, 0, 0, 4]), (21, &[0, 0, 0, 0]), (22, &[1])];
+    let settings = kept.iter().filter(|setting| setting.0 != kind).flat_map(|&(kind, value)| setting(kind, value));
+    setting(24, &settings.collect::<Vec<_>>())
+}
+
+/// An encoding that asks for one flow of 1/4/0 and has these bytes behind.
+fn good_and(more: &[u8]) -> Vec<u8> {
+    setting(24, &[&four_settings(1, 4, 0, 1), more].concat())
+}
+
+#[test]
+fn a_list_byte_for_byte() {
+    // Size 232 bytes, interval 20,000 and jitter 800 microseconds, 1 grant per interval.
+    let settings = [
+        &[24, 19][..],
+        &[19, 2, 0x00, 0xE8],
+        &[20, 4, 0x00, 0x00, 0x4E, 0x20],
+        &[21, 4, 0x00, 0x00, 0x03, 0x20],
+        &[22, 1, 1],
+    ];
+    assert_eq!(settings.concat(), encoding(232, 20_000, 800, 1));
+    // Flow 1 of 15/800/32: number 1 in 10 bits, 15 in 12, 800 in 13 and 32 in 13.
+    let list = [0x11, 0, 0, 1, 0x00, 0x40, 0x3C, 0x64, 0x00, 0x20];
+    assert_eq!(list_in(&settings.concat(), SLOTS, 10), Ok(list.to_vec()));
+    assert_eq!(list_in(&settings.concat(), SLOTS, 11), Ok(list.to_vec()));
+    assert_eq!(flows(&[(15, 800, 32)]), Ok(list.to_vec()));
+}
+
+#[test]
+fn values_are_most_significant_byte_first() {
+    assert_eq!(list_of(&[encoding(0x0102, 0x0E10, 0x0304, 1)], UNITS), flows(&[(0x102, 0xE10, 0x304)]));
+    assert_eq!(list_of(&[encoding(1, 0x0102_0000, 0, 1)], [0x2_0000, 1]), flows(&[(1, 0x81, 0)]));
+    assert_eq!(list_of(&[encoding(1, 0x0102_0000, 0x0100_FFFF, 1)], [0x2_0000, 1]), flows(&[(1, 0x81, 0x80)]));
+}
+
+#[test]
+fn size_rounds_up() {
+    for (bytes, slots) in [(1, 1), (15, 1), (16, 1), (17, 2), (32, 2), (33, 3), (65_520, 4095)] {
+        assert_eq!(list_of(&[encoding(bytes, 4096, 0, 1)], [1, 16]), flows(&[(slots, 4096, 0)]), "{bytes}");
+    }
+    assert_eq!(list_of(&[encoding(65_521, 4096, 0, 1)], [1, 16]), Err((4, 1)));
+    assert_eq!(list_of(&[encoding(65_535, 4096, 0, 1)], [1, 17]), flows(&[(3855, 4096, 0)]));
+    for bytes in [65_535, 65_536, 1 << 32, u64::MAX - 1, u64::MAX] {
+        assert_eq!(list_of(&[encoding(65_535, 4096, 0, 1)], [1, bytes]), flows(&[(1, 4096, 0)]), "{bytes}");
+        assert_eq!(list_of(&[encoding(0, 4096, 0, 1)], [1, bytes]), Err((4, 1)), "{bytes}");
+    }
+    assert_eq!(list_of(&[encoding(65_535, 4096, 0, 1)], [1, 65_534]), flows(&[(2, 4096, 0)]));
+}
+
+#[test]
+fn jitter_rounds_down() {
+    for (microseconds, slots) in [(0, 0), (24, 0), (25, 1), (49, 1), (50, 2), (99, 3)] {
+        assert_eq!(list_of(&[encoding(1, 100, microseconds, 1)], SLOTS), flows(&[(1, 4, slots)]), "{microseconds}");
+    }
+    // Interval less one is the most.
+    assert_eq!(list_of(&[encoding(1, 100, 100, 1)], SLOTS), Err((4, 1)));
+    assert_eq!(list_of(&[encoding(1, 100, u32::MAX, 1)], SLOTS), Err((4, 1)));
+}
+
+#[test]
+fn an_interval_must_be_a_whole_number_of_slots() {
+    assert_eq!(list_of(&[encoding(1, 100, 0, 1)], SLOTS), flows(&[(1, 4, 0)]));
+    for microseconds in [1, 24, 26, 99, 101, 124, u32::MAX - 1] {
+        assert_eq!(list_of(&[encoding(1, microseconds, 0, 1)], SLOTS), Err((25, 1)), "{microseconds}");
+    }
+    // A slot longer than the interval, of whatever length.
+    for slot in [101, 65_536, 1 << 32, (1 << 32) + 100, u64::MAX] {
+        assert_eq!(list_of(&[encoding(1, 100, 0, 1)], [slot, 16]), Err((25, 1)), "{slot}");
+    }
+    assert_eq!(list_of(&[encoding(1, u32::MAX, 0, 1)], [u64::from(u32::MAX), 16]), flows(&[(1, 1, 0)]));
+    // The encoding is the place, not the record.
+    let run = [encoding(1, 100, 0, 5), encoding(1, 100, 0, 0), encoding(1, 110, 0, 1), encoding(1, 120, 0, 1)];
+    assert_eq!(list_of(&run, SLOTS), Err((25, 3)));
+}
+
+#[test]
+fn an_interval_of_0_is_whole() {
+    assert_eq!(list_of(&[encoding(1, 0, 0, 1)], SLOTS), Err((4, 1)));
+    assert_eq!(list_of(&[encoding(1, 0, 0, 1)], [u64::MAX, u64::MAX]), Err((4, 1)));
+    // With no flow there is no record at fault.
+    assert_eq!(list_of(&[encoding(1, 0, 0, 0), encoding(1, 100, 0, 1)], SLOTS), flows(&[(1, 4, 0)]));
+}
+
+#[test]
+fn several_grants_per_interval_become_as_many_flows() {
+    let run = [encoding(1, 4, 3, 1), encoding(2, 8, 7, 3), encoding(3, 8, 5, 2)];
+    assert_eq!(list_of(&run, UNITS), flows(&[(1, 4, 3), (2, 8, 7), (2, 8, 7), (2, 8, 7), (3, 8, 5), (3, 8, 5)]));
+    assert_eq!(list_of(&[encoding(1, 4096, 0, 128)], UNITS), flows(&[(1, 4096, 0); 128]));
+}
+
+#[test]
+fn flows_are_numbered_from_1_as_they_come() {
+    let list = list_of(&[encoding(1, 4, 0, 2), encoding(1, 4, 0, 0), encoding(2, 8, 0, 2)], UNITS);
+    assert_eq!(list, Ok(samples::list(&[[1, 1, 4, 0], [2, 1, 4, 0], [3, 2, 8, 0], [4, 2, 8, 0]])));
+    let mut sheet = [0; 200];
+    let length = base::sheet_from_list(&list.expect("a list"), &mut sheet).expect("a sheet");
+    assert!(sheet[..length].ends_with(b"flow 4 size 2 every 8 jitter 0\n"));
+}
+
+#[test]
+fn no_grants_per_interval_give_no_flow() {
+    let nothing = encoding(1, 4, 0, 0);
+    assert_eq!(list_in(&nothing, UNITS, 1000), Err((3, 0)));
+    assert_eq!(list_of(&[nothing.clone(), good(), nothing.clone()], UNITS), flows(&[(1, 4, 0)]));
+    // Its fields break no rule and its interval is related to all: it has no record.
+    assert_eq!(list_of(&[encoding(9, 7, 8, 0), good()], UNITS), flows(&[(1, 4, 0)]));
+    assert_eq!(list_of(&[encoding(0, 0, 9, 0), good()], UNITS), flows(&[(1, 4, 0)]));
+    // But it is tested by 23 to 25 like any other.
+    assert_eq!(list_of(&[encoding(16, 100, 0, 1), encoding(16, 99, 0, 0)], SLOTS), Err((25, 2)));
+    assert_eq!(list_of(&[good(), setting(24, &setting(22, &[0]))], UNITS), Err((24, 2)));
+    assert_eq!(list_of(&[good(), setting(24, &[four_settings(1, 4, 0, 0), vec![0]].concat())], UNITS), Err((23, 2)));
+}
+
+#[test]
+fn other_settings_are_stepped_over_by_length() {
+    // Every type but the four, with lengths of their own.
+    for kind in (0..=255).filter(|kind| !(19..=22).contains(kind)) {
+        for length in [0, 1, 2, 4, 234] {
+            let other = setting(kind, &vec![22; length]);
+            let behind = good_and(&other);
+            let before = setting(24, &[other, four_settings(1, 4, 0, 1)].concat());
+            assert_eq!(list_of(&[behind, before], UNITS), flows(&[(1, 4, 0); 2]), "{kind} {length}");
+        }
+    }
+    // The four inside another setting are its value: neither given nor repeated.
+    let inside = setting(24, &four_settings(2, 8, 1, 1));
+    assert_eq!(list_of(&[good_and(&inside)], UNITS), flows(&[(1, 4, 0)]));
+    assert_eq!(list_of(&[setting(24, &inside)], UNITS), Err((24, 1)));
+}
+
+#[test]
+fn the_four_in_any_order() {
+    let four = [setting(19, &[0, 3]), setting(20, &[0, 0, 0, 8]), setting(21, &[0, 0, 0, 2]), setting(22, &[2])];
+    let other = setting(15, &[6]);
+    for order in [[0, 1, 2, 3], [3, 2, 1, 0], [1, 3, 0, 2], [2, 0, 3, 1]] {
+        let settings: Vec<_> = order.iter().flat_map(|&index| [four[index].clone(), other.clone()]).collect();
+        assert_eq!(list_of(&[setting(24, &settings.concat())], UNITS), flows(&[(3, 8, 2); 2]), "{order:?}");
+    }
+}
+
+#[test]
+fn a_channel_value_of_zero_comes_first() {
+    for settings in [vec![], good(), vec![24], vec![0, 0], setting(24, &[]), encoding(1, 7, 0, 1)] {
+        for channel in [[0, 1], [1, 0], [0, 0], [0, u64::MAX], [u64::MAX, 0]] {
+            assert_eq!(list_in(&settings, channel, 0), Err((26, 0)), "{settings:?} {channel:?}");
+            assert_eq!(list_in(&settings, channel, 1000), Err((26, 0)), "{settings:?} {channel:?}");
+        }
+    }
+}
+
+#[test]
+fn a_broken_encoding() {
+    // Fewer than two bytes left for type and length.
+    assert_eq!(list_in(&[24], UNITS, 100), Err((23, 1)));
+    assert_eq!(list_of(&[good(), good(), vec![24]], UNITS), Err((23, 3)));
+    assert_eq!(list_of(&[good(), vec![0]], UNITS), Err((23, 2)));
+    // A length past the end.
+    assert_eq!(list_in(&[24, 1], UNITS, 100), Err((23, 1)));
+    assert_eq!(list_of(&[good(), vec![24, 255]], UNITS), Err((23, 2)));
+    // Cut off anywhere but between two: the one that is cut.
+    let run = [good(), encoding(2, 8, 0, 1)].concat();
+    for length in (1..run.len()).filter(|length| *length != 21) {
+        let place = if length < 21 { 1 } else { 2 };
+        assert_eq!(list_in(&run[..length], UNITS, 100), Err((23, place)), "{length}");
+    }
+    assert_eq!(list_in(&run[..21], UNITS, 100), flows(&[(1, 4, 0)]));
+    assert_eq!(list_in(&run, UNITS, 100), flows(&[(1, 4, 0), (2, 8, 0)]));
+}
+
+#[test]
+fn a_broken_setting_breaks_its_encoding() {
+    // Fewer than two bytes left, or a length past the end of the encoding, though not of the run.
+    for more in [&[0][..], &[255], &[24], &[22], &[0, 1], &[0, 255], &[43, 2, 0], &[19, 2, 0]] {
+        assert_eq!(list_of(&[good(), good_and(more), good()], UNITS), Err((23, 2)), "{more:?}");
+        assert_eq!(list_of(&[good_and(more)], UNITS), Err((23, 1)), "{more:?}");
+    }
+    // The encoding's own length one too small, or one too great for what it holds.
+    for length in [18, 20] {
+        let mut second = good();
+        second[1] = length;
+        assert_eq!(list_of(&[good(), second, good()], UNITS), Err((23, 2)), "{length}");
+    }
+}
+
+#[test]
+fn another_type_at_the_top() {
+    for kind in (0..=255).filter(|&kind| kind != 24) {
+        let other = setting(kind, &four_settings(1, 4, 0, 1));
+        assert_eq!(list_of(&[good(), other], UNITS), Err((23, 2)), "{kind}");
+        assert_eq!(list_of(&[setting(kind, &[]), good()], UNITS), Err((23, 1)), "{kind}");
+    }
+    // 0 and 255 neither fill nor end a run.
+    assert_eq!(list_of(&[good(), vec![255]], UNITS), Err((23, 2)));
+    assert_eq!(list_of(&[good(), vec![0, 0]], UNITS), Err((23, 2)));
+    assert_eq!(list_of(&[good(), vec![255, 0], good()], UNITS), Err((23, 2)));
+}
+
+#[test]
+fn one_of_the_four_repeated() {
+    for again in [setting(19, &[0, 1]), setting(20, &[0, 0, 0, 4]), setting(21, &[0; 4]), setting(22, &[1])] {
+        assert_eq!(list_of(&[good(), good_and(&again)], UNITS), Err((23, 2)), "{again:?}");
+        assert_eq!(list_of(&[good_and(&again), good()], UNITS), Err((23, 1)), "{again:?}");
+        // Repeated with a value of 0, and where another is missing.
+        let zero: Vec<_> = again[..2].iter().copied().chain(again[2..].iter().map(|_| 0)).collect();
+        assert_eq!(list_of(&[good_and(&zero)], UNITS), Err((23, 1)), "{zero:?}");
+        assert_eq!(list_of(&[setting(24, &again.repeat(2))], UNITS), Err((23, 1)), "{again:?}");
+    }
+    // Another setting may come as often as it will, and each encoding has its own four.
+    assert_eq!(list_of(&[good_and(&[15, 0, 15, 0]), good()], UNITS), flows(&[(1, 4, 0); 2]));
+}
+
+#[test]
+fn one_of_the_four_of_wrong_length() {
+    for (kind, length) in [(19, 2), (20, 4), (21, 4), (22, 1)] {
+        for wrong in (0..=16).chain([200]).filter(|&wrong| wrong != length) {
+            let [mut before, after] = [without(kind), setting(kind, &vec![0; wrong])];
+            before[1] += after.len() as u8;
+            assert_eq!(list_of(&[good(), [before, after].concat()], UNITS), Err((23, 2)), "{kind} {wrong}");
+        }
+    }
+}
+
+#[test]
+fn one_of_the_four_missing() {
+    for kind in 19..=22 {
+        assert_eq!(list_of(&[without(kind)], UNITS), Err((24, 1)), "{kind}");
+        assert_eq!(list_of(&[good(), good(), without(kind), good()], UNITS), Err((24, 3)), "{kind}");
+        // Another encoding's does not stand in for it.
+        assert_eq!(list_of(&[without(kind), without(41 - kind)], UNITS), Err((24, 1)), "{kind}");
+    }
+    assert_eq!(list_of(&[setting(24, &[])], UNITS), Err((24, 1)));
+    assert_eq!(list_of(&[good(), setting(24, &setting(15, &[6]))], UNITS), Err((24, 2)));
+}
+
+#[test]
+fn each_test_over_the_whole_run_before_the_next() {
+    let not_whole = encoding(16, 99, 0, 1);
+    let missing = without(21);
+    let whole = encoding(16, 100, 0, 1);
+    // 23 anywhere before 24 anywhere before 25 anywhere.
+    assert_eq!(list_of(&[not_whole.clone(), missing.clone(), vec![24]], SLOTS), Err((23, 3)));
+    assert_eq!(list_of(&[not_whole.clone(), missing.clone(), whole.clone()], SLOTS), Err((24, 2)));
+    assert_eq!(list_of(&[whole.clone(), not_whole.clone(), not_whole.clone()], SLOTS), Err((25, 2)));
+    // The lowest place is named.
+    assert_eq!(list_of(&[whole.clone(), good_and(&[0]), vec![0, 0], vec![24]], SLOTS), Err((23, 2)));
+    assert_eq!(list_of(&[whole.clone(), missing.clone(), whole.clone(), missing.clone()], SLOTS), Err((24, 2)));
+    // An interval that is not whole in an encoding where another setting is missing.
+    let both = setting(24, &setting(20, &[0, 0, 0, 99]));
+    assert_eq!(list_of(&[not_whole.clone(), both], SLOTS), Err((24, 2)));
+    // 25 before 3, 3 before 4, 4 before 6, 6 before 9.
+    let many = encoding(16, 100, 0, 255);
+    assert_eq!(list_of(&[many.clone(), not_whole], SLOTS), Err((25, 2)));
+    assert_eq!(list_of(&[many, encoding(0, 0, 0, 1)], SLOTS), Err((3, 0)));
+    assert_eq!(list_of(&[whole.clone(), encoding(16, 150, 0, 1), encoding(0, 100, 0, 1)], SLOTS), Err((4, 3)));
+    assert_eq!(list_in(&[whole.clone(), encoding(16, 150, 0, 1)].concat(), SLOTS, 0), Err((6, 2)));
+    assert_eq!(list_in(&whole, SLOTS, 9), Err((9, 0)));
+}
+
+#[test]
+fn from_1_to_128_flows() {
+    assert_eq!(list_in(&[], UNITS, 100), Err((3, 0)));
+    assert_eq!(list_in(&[], UNITS, 0), Err((3, 0)));
+    let with = |grants: &[u8]| {
+        let run: Vec<_> = grants.iter().map(|&grants| encoding(1, 200, 0, grants)).collect();
+        list_of(&run, UNITS).map(|list| list.len())
+    };
+    assert_eq!(with(&[128]), Ok(772));
+    assert_eq!(with(&[127, 0, 1, 0]), Ok(772));
+    assert_eq!(with(&[1; 128]), Ok(772));
+    for wrong in [&[129][..], &[255], &[128, 1], &[127, 0, 2], &[1; 129], &[255; 300], &[128, 128], &[0; 5], &[1; 256]]
+    {
+        assert_eq!(with(wrong), Err((3, 0)), "{wrong:?}");
+    }
+    // Encodings without flows do not count: any number of them.
+    assert_eq!(with(&[&[0; 3000][..], &[2]].concat()), Ok(16));
+    let many: Vec<_> = (0..70_000).map(|_| encoding(1, 4, 0, 0)).chain([vec![24]]).collect();
+    assert_eq!(list_of(&many, UNITS), Err((23, 70_001)));
+    // 65,537 flows are not one flow.
+    assert_eq!(with(&[1; 65_537]), Err((3, 0)));
+    assert_eq!(with(&[&[255; 257][..], &[2]].concat()), Err((3, 0)));
+}
+
+#[test]
+fn places_of_3_to_6_are_those_of_the_list() {
+    // The third encoding, but the fourth record.
+    let before = [encoding(1, 4, 0, 3), encoding(1, 4, 0, 0)];
+    let with = |last: Vec<u8>| list_of(&[&before[..], &[last]].concat(), UNITS);
+    assert_eq!(with(encoding(0, 4, 0, 2)), Err((4, 4)));
+    assert_eq!(with(encoding(5, 4, 0, 2)), Err((4, 4)));
+    assert_eq!(with(encoding(1, 4, 4, 2)), Err((4, 4)));
+    assert_eq!(with(encoding(1, 0, 0, 2)), Err((4, 4)));
+    assert_eq!(with(encoding(1, 4097, 0, 2)), Err((4, 4)));
+    assert_eq!(with(encoding(1, 6, 0, 2)), Err((6, 4)));
+    assert_eq!(with(encoding(1, 4096, 4095, 1)), flows(&[(1, 4, 0), (1, 4, 0), (1, 4, 0), (1, 4096, 4095)]));
+}
+
+#[test]
+fn nothing_is_cut_to_the_width_of_a_field() {
+    // What is right once it is cut to 12 or 13 bits, or to 16, is wrong all the same.
+    assert_eq!(list_of(&[encoding(4097, 4096, 0, 1)], UNITS), Err((4, 1)));
+    assert_eq!(list_of(&[encoding(4096, 4096, 0, 1)], UNITS), Err((4, 1)));
+    for bit in [13, 16, 24, 31] {
+        assert_eq!(list_of(&[encoding(1, 4 + (1 << bit), 0, 1)], UNITS), Err((4, 1)), "{bit}");
+        assert_eq!(list_of(&[encoding(1, 4, 1 << bit, 1)], UNITS), Err((4, 1)), "{bit}");
+    }
+    // And so are the channel's values.
+    for bit in [8, 16, 32, 63] {
+        assert_eq!(list_of(&[encoding(16, 100, 0, 1)], [25 + (1 << bit), 16]), Err((25, 1)), "{bit}");
+        assert_eq!(list_of(&[encoding(17, 100, 0, 1)], [25, 16 + (1 << bit)]), flows(&[(1, 4, 0)]), "{bit}");
+    }
+}
+
+#[test]
+fn a_list_of_too_many_grants_or_too_great_a_load_is_a_list() {
+    // 7 and 8 are not tested.
+    assert_eq!(list_of(&[encoding(1, 1, 0, 1), encoding(1, 4096, 0, 1)], UNITS), flows(&[(1, 1, 0), (1, 4096, 0)]));
+    assert_eq!(list_of(&[encoding(4, 4, 0, 3)], UNITS), flows(&[(4, 4, 0); 3]));
+}
+
+#[test]
+fn a_room_too_short() {
+    let run = [encoding(1, 4, 0, 2), encoding(1, 8, 0, 1)].concat();
+    for room in [0, 1, 4, 10, 21] {
+        assert_eq!(list_in(&run, UNITS, room), Err((9, 0)), "{room}");
+    }
+    for room in [22, 23, 5000] {
+        assert_eq!(list_in(&run, UNITS, room), flows(&[(1, 4, 0), (1, 4, 0), (1, 8, 0)]), "{room}");
+    }
+}
+
+#[test]
+fn the_settings_that_are_measured() {
+    let listed = |settings: &[u8]| list_in(settings, samples::CHANNEL, base::LONGEST_LIST);
+    assert_eq!(listed(&samples::small_settings()), flows(&[(15, 800, 32), (8, 400, 20), (8, 400, 20)]));
+    assert_eq!(listed(&samples::settings_all_in_one()), flows(&[(4, 4096, 128); 128]));
+    let one_by_one: Vec<_> =
+        (0..128).map(|index| (1 + u32::div_ceil(index, 16), 512 << (index % 4), 128 + index)).collect();
+    assert_eq!(listed(&samples::settings_one_by_one()), flows(&one_by_one));
+    assert_eq!(listed(&samples::settings_among_others()), flows(&one_by_one));
+    assert_eq!(samples::settings_one_by_one().len(), 128 * 21);
+    assert_eq!(samples::settings_among_others().len(), 128 * 257);
 }

@@ -1,5 +1,5 @@
-//! The placing rule, the check, the window and live add once more, word by word and with no regard for speed, against
-//! the base on random inputs.
+//! The placing rule, the check, the window, live add and modem settings once more, word by word and with no regard for
+//! speed, against the base on random inputs.
 
 use harness::base;
 use harness::generate::{Case, Random};
@@ -239,6 +239,119 @@ fn random_live_adds() {
     assert!([1, 2].into_iter().chain(11..=18).all(|number| counts.contains_key(&number)), "{counts:?}");
 }
 
+/// A type and its value.
+type Item<'a> = (u8, &'a [u8]);
+
+/// A run of types, lengths and values taken apart, up to a broken one; and whether none is broken.
+fn items(mut run: &[u8]) -> (Vec<Item<'_>>, bool) {
+    let mut items = Vec::new();
+    while !run.is_empty() {
+        if run.len() < 2 || run.len() < 2 + usize::from(run[1]) {
+            return (items, false);
+        }
+        let (item, after) = run.split_at(2 + usize::from(run[1]));
+        items.push((item[0], &item[2..]));
+        run = after;
+    }
+    (items, true)
+}
+
+/// The four settings, each with its type and its length.
+const FOUR: [(u8, usize); 4] = [(19, 2), (20, 4), (21, 4), (22, 1)];
+
+/// The values of a setting in an encoding.
+fn values(kind: u8, encoding: &[u8]) -> Vec<&[u8]> {
+    items(encoding).0.into_iter().filter(|item| item.0 == kind).map(|item| item.1).collect()
+}
+
+/// The value of a setting that an encoding has.
+fn value(kind: u8, encoding: &[u8]) -> u128 {
+    values(kind, encoding)[0].iter().fold(0, |value, &byte| 256 * value + u128::from(byte))
+}
+
+/// The flows that a run asks for, for slots of so many microseconds and bytes and a room of this length.
+fn ask(run: &[u8], [microseconds, bytes]: [u64; 2], room: usize) -> Result<Vec<Flow>, (u32, u64)> {
+    if [microseconds, bytes].contains(&0) {
+        return Err((26, 0));
+    }
+    let (microseconds, bytes) = (u128::from(microseconds), u128::from(bytes));
+    let (encodings, whole) = items(run);
+    let first = |number: u32, wrong: &dyn Fn(&Item) -> bool| {
+        encodings.iter().position(wrong).map_or(Ok(()), |index| Err((number, index as u64 + 1)))
+    };
+    first(23, &|&(kind, encoding)| {
+        let wrong = |&(kind, length): &(u8, usize)| {
+            let values = values(kind, encoding);
+            values.len() > 1 || values.iter().any(|value| value.len() != length)
+        };
+        kind != 24 || !items(encoding).1 || FOUR.iter().any(wrong)
+    })?;
+    if !whole {
+        return Err((23, encodings.len() as u64 + 1));
+    }
+    first(24, &|&(_, encoding)| FOUR.iter().any(|&(kind, _)| values(kind, encoding).is_empty()))?;
+    first(25, &|&(_, encoding)| !value(20, encoding).is_multiple_of(microseconds))?;
+
+    let mut flows: Vec<Flow> = Vec::new();
+    for (_, encoding) in encodings {
+        // The fewest slots that hold so many bytes.
+        let size = (0..).find(|slots| slots * bytes >= value(19, encoding)).expect("some are enough");
+        let (interval, jitter) = (value(20, encoding) / microseconds, value(21, encoding) / microseconds);
+        for _ in 0..value(22, encoding) {
+            flows.push([flows.len() + 1, size as usize, interval as usize, jitter as usize]);
+        }
+    }
+    if flows.is_empty() || flows.len() > 128 {
+        return Err((3, 0));
+    }
+    let first = |number: u32, wrong: &dyn Fn(usize) -> bool| {
+        (0..flows.len()).find(|&index| wrong(index)).map_or(Ok(()), |index| Err((number, index as u64 + 1)))
+    };
+    first(4, &|index| {
+        let [number, size, interval, jitter] = flows[index];
+        let right = (1..=1023).contains(&number) && (1..=4095).contains(&size) && (1..=4096).contains(&interval);
+        !right || size > interval || jitter > interval - 1
+    })?;
+    first(5, &|index| flows[..index].iter().any(|flow| flow[0] == flows[index][0]))?;
+    let related = |one: usize, other: usize| one.max(other).is_multiple_of(one.min(other));
+    first(6, &|index| flows[..index].iter().any(|flow| !related(flow[2], flows[index][2])))?;
+    if room < 4 + 6 * flows.len() {
+        return Err((9, 0));
+    }
+    Ok(flows)
+}
+
+/// Compares one list from modem settings with the base; answers the refusal's number, 0 if there is none.
+fn compare_settings(settings: &[u8], channel: [u64; 2], room: usize) -> u32 {
+    let mut bytes = vec![0xA5; room];
+    let answer = base::list_from_settings(settings, channel[0], channel[1], &mut bytes);
+    let answer = answer.map_err(|refusal| (refusal.number, refusal.place));
+    let expected = ask(settings, channel, room);
+    assert_eq!(answer, expected.clone().map(|flows| 4 + 6 * flows.len()), "{settings:?} {channel:?}");
+    let written = answer.unwrap_or(0);
+    if let Ok(new_flows) = expected {
+        assert_eq!(bytes[..4], [0x11, 0, 0, new_flows.len() as u8]);
+        assert_eq!(flows(&bytes[..written]), new_flows);
+    }
+    assert!(bytes[written..].iter().all(|&byte| byte == 0xA5));
+    answer.err().map_or(0, |(number, _)| number)
+}
+
+#[test]
+fn random_settings() {
+    let mut random = Random::new(5);
+    let mut counts = BTreeMap::new();
+    for _ in 0..20_000 {
+        let Case::ListFromSettings { settings, channel, room } = random.list_from_settings() else {
+            unreachable!("modem settings");
+        };
+        *counts.entry(compare_settings(&settings, channel, room)).or_insert(0) += 1;
+    }
+    println!("modem settings by refusal {counts:?}");
+    assert!(counts.keys().eq(&[0, 3, 4, 6, 9, 23, 24, 25, 26]), "{counts:?}");
+    assert!(counts.values().all(|&count| count > 100), "{counts:?}");
+}
+
 #[test]
 fn random_inputs() {
     let mut random = Random::new(7);
@@ -294,6 +407,9 @@ fn random_inputs() {
             }
             Case::LiveAdd { list, table, flow, rooms } => {
                 compare_live_add(&list, &table, flow, rooms);
+            }
+            Case::ListFromSettings { settings, channel, room } => {
+                compare_settings(&settings, channel, room);
             }
         }
     }

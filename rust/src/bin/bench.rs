@@ -50,6 +50,11 @@ fn main() {
     adding("1,023 grants, full to the last 4 slots", &samples::full_to_the_last_frame(), (4, 4096, 0));
     // The most grants for an offset, and to be put between others.
     adding("612 grants, 256 more between them", &samples::last_slots_free(), (1, 16, 0));
+
+    settings("2 encodings, 3 flows", &samples::small_settings());
+    settings("128 encodings, 1 grant each", &samples::settings_one_by_one());
+    settings("1 encoding, 128 grants", &samples::settings_all_in_one());
+    settings("128 encodings, 41 other settings in each", &samples::settings_among_others());
 }
 
 /// Adds a flow to the planned table of others.
@@ -73,6 +78,18 @@ fn adding(name: &str, flows: &[samples::Flow], (size, interval, jitter): samples
     assert!(our_rooms == their_rooms, "{name}: the rooms differ");
 }
 
+/// Turns settings into a list.
+fn settings(name: &str, settings: &[u8]) {
+    let [microseconds, bytes] = samples::CHANNEL;
+    writing(
+        &format!("settings to list: {name}"),
+        settings,
+        base::LONGEST_LIST,
+        |settings, room| base::list_from_settings(settings, black_box(microseconds), black_box(bytes), room),
+        |settings, room| library::list_from_settings(settings, black_box(microseconds), black_box(bytes), room),
+    );
+}
+
 /// A sheet and its list, both ways.
 fn sheets(name: &str, list: &[u8], sheet: &[u8]) {
     let (to_list, to_sheet) = (format!("sheet to list: {name}"), format!("list to sheet: {name}"));
@@ -85,8 +102,8 @@ fn writing(
     name: &str,
     input: &[u8],
     room: usize,
-    ours: fn(&[u8], &mut [u8]) -> Result<usize, Refusal>,
-    theirs: fn(&[u8], &mut [u8]) -> Result<usize, Refusal>,
+    ours: impl Fn(&[u8], &mut [u8]) -> Result<usize, Refusal>,
+    theirs: impl Fn(&[u8], &mut [u8]) -> Result<usize, Refusal>,
 ) {
     let (mut our_room, mut their_room) = (vec![0; room], vec![0; room]);
     compare(

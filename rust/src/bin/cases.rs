@@ -29,9 +29,18 @@ fn answer(stream: &mut &[u8]) -> Option<String> {
     let (operation, rest) = stream.split_first()?;
     *stream = rest;
     match operation {
-        1 => written("pack", stream, base::list_from_sheet),
-        2 => written("write", stream, base::sheet_from_list),
-        3 => written("plan", stream, base::plan),
+        1 => {
+            let sheet = string(stream)?;
+            written("pack", stream, |room| base::list_from_sheet(sheet, room))
+        }
+        2 => {
+            let list = string(stream)?;
+            written("write", stream, |room| base::sheet_from_list(list, room))
+        }
+        3 => {
+            let list = string(stream)?;
+            written("plan", stream, |room| base::plan(list, room))
+        }
         4 => {
             let (list, table) = (string(stream)?, string(stream)?);
             let (number, place) = refusal(base::check(list, table).err());
@@ -45,6 +54,12 @@ fn answer(stream: &mut &[u8]) -> Option<String> {
             Some(format!("window {number} {place} {} {}", stretch.start, stretch.len()))
         }
         6 => live_add(stream),
+        7 => {
+            let (settings, slot_microseconds, slot_bytes) = (string(stream)?, number(stream)?, number(stream)?);
+            written("settings", stream, |room| {
+                base::list_from_settings(settings, slot_microseconds.into(), slot_bytes.into(), room)
+            })
+        }
         _ => None,
     }
 }
@@ -66,15 +81,10 @@ fn live_add(stream: &mut &[u8]) -> Option<String> {
     Some(format!("add {number} {place} {offset} {list_bytes} {list_sum} {table_bytes} {table_sum}"))
 }
 
-/// Runs an operation that reads one byte string and writes one room.
-fn written(
-    name: &str,
-    stream: &mut &[u8],
-    operation: fn(&[u8], &mut [u8]) -> Result<usize, Refusal>,
-) -> Option<String> {
-    let input = string(stream)?;
+/// Runs an operation that writes one room, the last of its inputs.
+fn written(name: &str, stream: &mut &[u8], operation: impl Fn(&mut [u8]) -> Result<usize, Refusal>) -> Option<String> {
     let mut room = room(stream)?;
-    let answer = operation(input, &mut room);
+    let answer = operation(&mut room);
     let (number, place) = refusal(answer.err());
     Some(format!("{name} {number} {place} {} {}", answer.unwrap_or(0), adler_32(&room)))
 }

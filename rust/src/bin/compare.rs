@@ -19,6 +19,9 @@ struct Outcome {
 /// Live add, ours or theirs.
 type LiveAdd = fn(&[u8], &[u8], [u64; 4], &mut [u8], &mut [u8]) -> Result<usize, Refusal>;
 
+/// Modem settings to a list, ours or theirs.
+type ListFromSettings = fn(&[u8], u64, u64, &mut [u8]) -> Result<usize, Refusal>;
+
 fn main() {
     let mut arguments = env::args().skip(1).map(|argument| argument.parse().expect("cases and seed are numbers"));
     let cases: u64 = arguments.next().unwrap_or(100_000);
@@ -38,8 +41,8 @@ fn main() {
     }
     for ((name, number), count) in &counts {
         match number {
-            0 => println!("{name:6} done       {count:>10}"),
-            _ => println!("{name:6} refused {number:<2} {count:>10}"),
+            0 => println!("{name:8} done       {count:>10}"),
+            _ => println!("{name:8} refused {number:<2} {count:>10}"),
         }
     }
     println!("{cases} cases of seed {seed}: no difference");
@@ -57,6 +60,9 @@ fn from_base(case: &Case) -> Outcome {
             outcome(answer.map_err(|refusal| Refusal { place: 0, ..refusal }))
         }
         Case::LiveAdd { list, table, flow, rooms } => added(base::live_add, list, table, *flow, *rooms),
+        Case::ListFromSettings { settings, channel, room } => {
+            asked(base::list_from_settings, settings, *channel, *room)
+        }
     }
 }
 
@@ -70,6 +76,9 @@ fn from_library(case: &Case) -> Outcome {
             outcome(library::window(table, *a, *b).map(|stretch| (stretch.start, stretch.end)))
         }
         Case::LiveAdd { list, table, flow, rooms } => added(library::live_add, list, table, *flow, *rooms),
+        Case::ListFromSettings { settings, channel, room } => {
+            asked(library::list_from_settings, settings, *channel, *room)
+        }
     }
 }
 
@@ -83,6 +92,12 @@ fn added(operation: LiveAdd, list: &[u8], table: &[u8], flow: [u64; 4], rooms: [
     let [mut list_room, mut table_room] = rooms.map(|length| vec![ROOM_BYTE; length]);
     let answer = operation(list, table, flow, &mut list_room, &mut table_room).map(|offset| (offset, 0));
     Outcome { answer, rooms: vec![list_room, table_room] }
+}
+
+fn asked(operation: ListFromSettings, settings: &[u8], channel: [u64; 2], room: usize) -> Outcome {
+    let mut room = vec![ROOM_BYTE; room];
+    let answer = operation(settings, channel[0], channel[1], &mut room).map(|length| (0, length));
+    Outcome { answer, rooms: vec![room] }
 }
 
 fn outcome(answer: Result<(usize, usize), Refusal>) -> Outcome {
@@ -106,6 +121,10 @@ fn describe(case: &Case, ours: &Outcome, theirs: &Outcome) {
             println!("list {}\ntable {}", hex(list), hex(table));
             println!("new flow {number} size {size} every {interval} jitter {jitter}");
             println!("rooms {} and {} bytes", rooms[0], rooms[1]);
+        }
+        Case::ListFromSettings { settings, channel: [microseconds, bytes], room } => {
+            println!("settings {}\nslots of {microseconds} microseconds and {bytes} bytes", hex(settings));
+            println!("room {room} bytes");
         }
     }
     if let Some(bytes) = case.bytes() {
