@@ -143,3 +143,9 @@ pub fn add(
     }
     print::word(b"\n");
 }
+
+// Modem settings to list.
+pub fn convert(settings: &[u8], slot_microseconds: u64, slot_bytes: u64, room: &mut [u8]) {
+    let answer = converting::list_from_settings(settings, slot_microseconds, slot_bytes, room);
+    made(b"settings", answer, room);
+}

@@ -1,5 +1,5 @@
 // Answers the outside cases on standard input, a line for each: sheet to list (1), list to sheet (2), plan (3), check (4), window
-// (5) and live add (6).
+// (5), live add (6) and modem settings to list (7).
 mod answers;
 mod print;
 mod stream;
@@ -88,6 +88,27 @@ fn added(list: &mut [u8], list_room: &mut [u8]) -> bool {
     true
 }
 
+// Reads modem settings, a slot length in microseconds, the bytes in a slot and the length of a room, and answers settings to list.
+fn converted(settings: &mut [u8], room: &mut [u8]) -> bool {
+    let n = stream::string(settings);
+    let slot_microseconds = stream::number();
+    let slot_bytes = stream::number();
+    let k = stream::number();
+    if settings.len() < n {
+        return false;
+    }
+    if room.len() < k {
+        return false;
+    }
+    answers::convert(
+        &settings[0..n],
+        slot_microseconds as u64,
+        slot_bytes as u64,
+        &mut room[0..k],
+    );
+    true
+}
+
 // Answers a case, and whether to go on.
 fn case() -> bool {
     let mut op = [0u8; 1];
@@ -107,7 +128,11 @@ fn case() -> bool {
             if kind == 6 {
                 added(&mut input, &mut room)
             } else {
-                written(kind, &mut input, &mut room)
+                if kind == 7 {
+                    converted(&mut input, &mut room)
+                } else {
+                    written(kind, &mut input, &mut room)
+                }
             }
         }
     };
