@@ -27,7 +27,7 @@ divides a b r h =
     let high : max a b ≡ b = omega arith in
     omega (arith, rw (low, high) at (eqb-true (max a b % min a b) 0 r), div-add-mod' b a)
 
-related-swap : (a b : ℕ) → related a b ≡ related b a
+pub related-swap : (a b : ℕ) → related a b ≡ related b a
 unfolding related
 related-swap a b =
     let low : min a b ≡ min b a = omega arith in

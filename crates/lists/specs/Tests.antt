@@ -58,6 +58,10 @@ test7 fs = unless (leb (cycle fs / frame fs) 256 && leb (grants fs) 1024) Limits
 unfoldable pub tests1to4 : List ℕ → Checked
 tests1to4 l = test1 l ⟫ test2 l ⟫ test3 (count l) ⟫ test1exact l ⟫ test4 (flowsOf l)
 
+-- tests 1 to 5, in their order
+unfoldable pub tests1to5 : List ℕ → Checked
+tests1to5 l = tests1to4 l ⟫ test5 (flowsOf l)
+
 -- tests 1 to 7, in their order
 unfoldable pub tests1to7 : List ℕ → Checked
 tests1to7 l = tests1to4 l ⟫ test5 (flowsOf l) ⟫ test6 (flowsOf l) ⟫ test7 (flowsOf l)

@@ -5,7 +5,7 @@ use mathlib.Core.Logic.{_↔_}
 use mathlib.Core.List.{List, [], _∷_, map}
 use Prim.Native.Nat.{ℕ}
 use Rattle.logic.specs.Lists.{All, every, Neighbours}
-use Rattle.logic.proofs.Members.{all-each, all-both, every-all}
+use Rattle.logic.proofs.Members.{all-each, all-imp, all-both, every-all, all-every}
 use Rattle.refusals.specs.declared.Refusal.{Refusal}
 use Rattle.refusals.specs.declared.Checked.the-variants.{Passed}
 use Rattle.refusals.specs.Tests.{lowest, against, after}
@@ -64,3 +64,16 @@ module _ {ℓ} {A : Type ℓ} (ok : A → A → Bool) where
   pub pairs-passed : (refusal : ℕ → Refusal) (n : ℕ) (xs : List A) → lowest refusal n (against (λ seen x. every (λ y. ok y x) seen) [] xs) ≡ Passed
       → Pairs (λ y x. ok y x ≡ true) xs
   pairs-passed refusal n xs e = pass-pairs [] xs (lowest-pass refusal n (against (λ seen x. every (λ y. ok y x) seen) [] xs) e) .1
+
+  -- it passes where any two entries of one sort pass and all are of that sort
+  module _ (P : A → Type 0) (h : (y x : A) → P y → P x → ok y x ≡ true) where
+    pass-alike : (seen xs : List A) → All P seen → All P xs → Pass (against (λ seen x. every (λ y. ok y x) seen) seen xs)
+    unfolding against
+    pass-alike seen [] s a = tt
+    pass-alike seen (x ∷ xs) s a = (
+      all-every (λ y. ok y x) seen (all-imp P (λ y. ok y x ≡ true) seen (λ y p. h y x p (a .0)) s),
+      pass-alike (x ∷ seen) xs (a .0, s) (a .1),
+    )
+
+    pub alike-passed : (refusal : ℕ → Refusal) (n : ℕ) (xs : List A) → All P xs → lowest refusal n (against (λ seen x. every (λ y. ok y x) seen) [] xs) ≡ Passed
+    alike-passed refusal n xs a = pass-lowest refusal n (against (λ seen x. every (λ y. ok y x) seen) [] xs) (pass-alike [] xs tt a)

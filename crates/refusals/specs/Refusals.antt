@@ -1,7 +1,7 @@
 -- Document 01's "Refusal numbers" and those of document 02: the number and the place of each refusal. Assumes nothing.
 use Prim.Native.Nat.{ℕ}
 use Rattle.refusals.specs.declared.Refusal.{Refusal}
-use Rattle.refusals.specs.declared.Refusal.the-variants.{Length, Head, Count, Field, UsedNumber, Unrelated, Limits, Overload, Room, NoFrame, TableForm, NotRising, OtherCycle, UnknownFlow, GrantCount, Timing, Overlap, PastCycle, WindowEnds, Line, OutsideSpan, NoOffset, Encoding, MissingSetting, NotWhole, NoChannel}
+use Rattle.refusals.specs.declared.Refusal.the-variants.{Length, Head, Count, Field, UsedNumber, Unrelated, Limits, Overload, Room, NoFrame, TableForm, NotRising, OtherCycle, UnknownFlow, GrantCount, Timing, Overlap, PastCycle, WindowEnds, Line, OutsideSpan, NoOffset, Encoding, MissingSetting, NotWhole, NoChannel, NoBase, BelowBase}
 
 -- the refusal's number
 abbrev pub number : Refusal → ℕ
@@ -31,6 +31,8 @@ number (Encoding p) = 23
 number (MissingSetting p) = 24
 number (NotWhole p) = 25
 number NoChannel = 26
+number NoBase = 27
+number (BelowBase p) = 28
 
 -- the record, line or encoding that it names, counted from 1; 0 where it names none
 abbrev pub place : Refusal → ℕ
@@ -60,3 +62,5 @@ place (Encoding p) = p
 place (MissingSetting p) = p
 place (NotWhole p) = p
 place NoChannel = 0
+place NoBase = 0
+place (BelowBase p) = p

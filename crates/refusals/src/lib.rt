@@ -58,6 +58,10 @@ pub enum Refusal {
     NotWhole(usize),
     // 26: a channel value of zero
     NoChannel,
+    // 27: base 0 or over 4,096
+    NoBase,
+    // 28: interval below the base: record
+    BelowBase(usize),
 }
 
 // What tests answer.
@@ -104,6 +108,8 @@ impl Refusal {
             Refusal::MissingSetting(_) => 24,
             Refusal::NotWhole(_) => 25,
             Refusal::NoChannel => 26,
+            Refusal::NoBase => 27,
+            Refusal::BelowBase(_) => 28,
         }
     }
 
@@ -138,6 +144,8 @@ impl Refusal {
             Refusal::MissingSetting(p) => p,
             Refusal::NotWhole(p) => p,
             Refusal::NoChannel => 0,
+            Refusal::NoBase => 0,
+            Refusal::BelowBase(p) => p,
         }
     }
 }

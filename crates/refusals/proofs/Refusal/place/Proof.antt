@@ -84,6 +84,12 @@ enum-known-self-14 c = search needs
 enum-told-12 : tie.Need-enum-told-12
 enum-told-12 c = search needs
 
+enum-told-13 : tie.Need-enum-told-13
+enum-told-13 c = search needs
+
+enum-known-self-15 : tie.Need-enum-known-self-15
+enum-known-self-15 c = search needs
+
 returns : tie.Need-returns
 returns c = ap place (sym (c .enum-told .given .1))
 
@@ -162,6 +168,12 @@ returns-25 c = ap place (sym (c .before .self14 .given .1))
 returns-26 : tie.Need-returns-26
 returns-26 c = ap place (sym (c .enum-told12 .given .1))
 
+returns-27 : tie.Need-returns-27
+returns-27 c = ap place (sym (c .enum-told13 .given .1))
+
+returns-28 : tie.Need-returns-28
+returns-28 c = ap place (sym (c .before .self15 .given .1))
+
 pub place-spec : {M : Type 1} → statement M
 place-spec =
     tie.close
@@ -192,6 +204,8 @@ place-spec =
     enum-known-self-13
     enum-known-self-14
     enum-told-12
+    enum-told-13
+    enum-known-self-15
     returns
     returns-2
     returns-3
@@ -217,4 +231,6 @@ place-spec =
     returns-23
     returns-24
     returns-25
-    returns-26)
+    returns-26
+    returns-27
+    returns-28)

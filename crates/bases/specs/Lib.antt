@@ -1,0 +1,3 @@
+pub mod Rounding
+pub mod Becomes
+pub mod Tests
