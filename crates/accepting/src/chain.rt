@@ -2,7 +2,7 @@
 ghost use mathlib.Core.Path.{_≡_};
 ghost use Rattle.refusals.specs.Tests.{_⟫_};
 ghost use Rattle.lists.specs.Lists.{count, flowsOf};
-ghost use Rattle.lists.specs.Tests.{test1, test2, test3, test1exact, test4, test7, tests1to4, tests1to7};
+ghost use Rattle.lists.specs.Tests.{test1, test2, test3, test1exact, test4, test7, tests1to4, tests1to5, tests1to7};
 ghost use Rattle.accepting.specs.Parts.{headed};
 use facts::facts_of;
 use fields::Kind;
@@ -11,6 +11,7 @@ use flows::times;
 use lists::count;
 use lists::few;
 use lists::flow_at;
+use pairing::number_test;
 use pairing::pair_tests;
 use refusals::Checked;
 use refusals::Refusal;
@@ -87,6 +88,17 @@ pub fn tests_1_to_4(list: &[u8]) -> Checked
         return Checked::Refused(r);
     }
     field_test(list)
+}
+
+// Tests 1 to 5 of a list.
+pub fn tests_1_to_5(list: &[u8]) -> Checked
+    ensures { λ r. ⌜ r ≡ tests1to5 (now (list .entry)) ⌝ }
+{
+    let first = tests_1_to_4(list);
+    if let Checked::Refused(r) = first {
+        return Checked::Refused(r);
+    }
+    number_test(list)
 }
 
 // Tests 1 to 7 of a list.

@@ -4,4 +4,5 @@
 mod chain;
 
 pub use chain::tests_1_to_4;
+pub use chain::tests_1_to_5;
 pub use chain::tests_1_to_7;

@@ -1,22 +1,21 @@
 -- The flows of one call, which differ in their numbers alone: tested at once and written one behind the other. Assumes nothing.
-use mathlib.Core.Path.{_≡_, refl, sym, ap, ap₂, _∙_}
+use mathlib.Core.Path.{_≡_, refl, sym, ap, _∙_}
 use mathlib.Core.Bool.{true, false}
-use mathlib.Core.List.{List, _∷_, _++_, map}
+use mathlib.Core.List.{List, _∷_, map}
 use Prim.Native.Nat.{ℕ, zero, suc, _+_, _-_, _/_, _≤_, _<_}
 use native.Mathlib.Omega.{arith}
 use lib.ListN.{length}
 use lib.Seq.{sets}
 use borrow.Author.Tests.{le-leb}
 use Rattle.logic.proofs.Tests.{true-not-false}
-use Rattle.logic.proofs.Rooms.{sets-append}
 use Rattle.flows.specs.declared.flow.Flow.{Flow}
-use Rattle.flows.specs.Flows.{keeps, newFlow, packedFlow}
-use Rattle.flows.proofs.Flows.{keeps-is, length-packed-flow}
+use Rattle.flows.specs.Flows.{keeps, newFlow}
+use Rattle.flows.proofs.Flows.{keeps-is}
 use Rattle.refusals.specs.declared.Refusal.the-variants.{Field}
 use Rattle.refusals.specs.declared.Checked.the-variants.{Passed, Refused}
 use Rattle.refusals.specs.Tests.{lowest}
 use Rattle.lists.specs.Lists.{place, records, recordAfter}
-use Rattle.lists.proofs.Writing.{records-none, records-is, record-written}
+use Rattle.lists.proofs.Writing.{records-none, record-next}
 use Rattle.settings.specs.declared.Call.{Call}
 use Rattle.settings.specs.Slots.{Channel, amount, roundedUp, flowFor, flowsFor}
 use Rattle.converting.specs.Parts.{renumbered, copies, Copied, CallWritten}
@@ -73,20 +72,17 @@ module _ (f : Flow) (n k : ℕ) (before : List ℕ) where
     copy-next h g eg new l w =
         let m : ℕ = (n + k) - (i + 1) in
         let left : (n + k) - i ≡ suc m = omega arith in
-        let rest : List ℕ = records (copies f (suc (suc i)) m) in
+        let rest : List Flow = copies f (suc (suc i)) m in
         let next : i + 1 ≡ suc i = omega arith in
         record {
           to = omega arith;
           same = l ∙ at .same;
           writes = λ e room.
               let is : keeps g ≡ true = ap keeps eg ∙ keeps-copy f first (i + 1) (omega arith) (omega (arith, h, few)) ∙ e in
-              let put : new ≡ sets list (place i) (packedFlow g) = w ∙ record-written g i list (keeps-is g is) (omega (arith, h, room, at .same)) in
-              let behind : place (i + 1) ≡ place i + length (packedFlow g) = omega (arith, length-packed-flow g) in
               ap (λ (j : ℕ). sets new (place (i + 1)) (records (copies f (suc j) m))) next
-              ∙ ap₂ (λ (r : List ℕ) (p : ℕ). sets r p rest) put behind
-              ∙ sym (sets-append list (place i) (packedFlow g) rest)
-              ∙ ap (λ (x : Flow). sets list (place i) (packedFlow x ++ rest)) (eg ∙ ap (λ (j : ℕ). renumbered j f) next)
-              ∙ ap (sets list (place i)) (sym (records-is (renumbered (suc i) f) (copies f (suc (suc i)) m)))
+              ∙ ap (λ (r : List ℕ). sets r (place (i + 1)) (records rest)) w
+              ∙ record-next g rest i list (keeps-is g is) (omega (arith, h, room, at .same))
+              ∙ ap (λ (x : Flow). sets list (place i) (records (x ∷ rest))) (eg ∙ ap (λ (j : ℕ). renumbered j f) next)
               ∙ ap (λ (j : ℕ). sets list (place i) (records (copies f (suc i) j))) (sym left)
               ∙ at .writes e room;
         }

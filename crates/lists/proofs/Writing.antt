@@ -1,5 +1,5 @@
 -- A list written: its head and its records, each at its place. Assumes nothing.
-use mathlib.Core.Path.{_≡_, refl, sym, ap, _∙_}
+use mathlib.Core.Path.{_≡_, refl, sym, ap, ap₂, _∙_}
 use mathlib.Core.List.{List, [], _∷_, _++_, append-assoc}
 use Prim.Native.Nat.{ℕ, _+_, _≤_, _<_}
 use native.Mathlib.Omega.{arith}
@@ -44,6 +44,15 @@ records-none = refl
 pub records-is : (f : Flow) (fs : List Flow) → records (f ∷ fs) ≡ packedFlow f ++ records fs
 unfolding records
 records-is f fs = refl
+
+-- a record written, and others still to be written behind it
+pub record-next : (f : Flow) (fs : List Flow) (i : ℕ) (room : List ℕ) → Keeps f → place i + 6 ≤ length room
+    → sets (recordAfter f i room) (place (i + 1)) (records fs) ≡ sets room (place i) (records (f ∷ fs))
+record-next f fs i room k h =
+    let behind : place (i + 1) ≡ place i + length (packedFlow f) = omega (arith, length-packed-flow f) in
+    ap₂ (λ (r : List ℕ) (p : ℕ). sets r p (records fs)) (record-written f i room k h) behind
+    ∙ sym (sets-append room (place i) (packedFlow f) (records fs))
+    ∙ ap (sets room (place i)) (sym (records-is f fs))
 
 pub records-both : (fs gs : List Flow) → records (fs ++ gs) ≡ records fs ++ records gs
 unfolding records

@@ -1,6 +1,7 @@
 // Tests 5 and 6 of a packed list.
 ghost use mathlib.Core.Path.{_≡_};
 ghost use Rattle.lists.specs.Lists.{flowsOf};
+ghost use Rattle.lists.specs.Tests.{test5};
 ghost use Rattle.pairing.specs.Parts.{pairTests, newPairTest, newPairTests};
 use crate::intervals::related_up_to;
 use crate::numbers::new_up_to;
@@ -11,6 +12,13 @@ use crate::pairs::refusal;
 use flows::Flow;
 use lists::count;
 use refusals::Checked;
+
+// Test 5 of a list.
+pub fn number_test(list: &[u8]) -> Checked
+    ensures { λ r. ⌜ r ≡ test5 (flowsOf (now (list .entry))) ⌝ }
+{
+    pair_test(Pair::Number, list, new_up_to(list))
+}
 
 // Tests 5 and 6 of a list, in their order.
 pub fn pair_tests(list: &[u8]) -> Checked

@@ -7,4 +7,5 @@ mod numbers;
 mod pairs;
 
 pub use both::new_pair_tests;
+pub use both::number_test;
 pub use both::pair_tests;

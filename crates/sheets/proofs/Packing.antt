@@ -1,23 +1,23 @@
 -- The records of a sheet's flows written into a list as its lines are read, and the list put into a room. Assumes nothing.
-use mathlib.Core.Path.{_≡_, refl, sym, ap, ap₂, _∙_}
+use mathlib.Core.Path.{_≡_, refl, sym, ap, _∙_}
 use mathlib.Core.Bool.{true}
-use mathlib.Core.List.{List, _++_}
+use mathlib.Core.List.{List, _∷_, _++_}
 use Prim.Native.Nat.{ℕ, _+_, _-_, _≤_}
 use native.Mathlib.Omega.{arith}
-use lib.ListN.{length, take, drop, length-append, length-take}
+use lib.ListN.{length, take, drop, length-take}
 use lib.Seq.{sets, length-sets, take-at, drop-at}
 use Rattle.logic.specs.Lists.{All}
-use Rattle.logic.proofs.Rooms.{sets-append, sets-between}
+use Rattle.logic.proofs.Rooms.{sets-between}
 use Rattle.fields.specs.declared.kind.Kind.the-variants.{ListHead}
 use Rattle.flows.specs.declared.flow.Flow.{Flow}
 use Rattle.fields.specs.Records.{roomAfter}
-use Rattle.flows.specs.Flows.{keeps, packedFlow}
-use Rattle.flows.proofs.Flows.{keeps-is, length-packed-flow}
+use Rattle.flows.specs.Flows.{keeps}
+use Rattle.flows.proofs.Flows.{keeps-is}
 use Rattle.words.specs.Places.{putAt}
 use Rattle.words.proofs.Places.{put-fits}
 use Rattle.lists.specs.Lists.{headFields, head, place, records, listOf, recordAfter}
 use Rattle.lists.proofs.RoundTrip.{length-records, length-list}
-use Rattle.lists.proofs.Writing.{head-written, records-none, records-is, record-written, list-written}
+use Rattle.lists.proofs.Writing.{head-written, records-none, record-next, list-written}
 use Rattle.sheets.specs.declared.line.Line.the-variants.{Of}
 use Rattle.sheets.specs.declared.line.LineAt.{LineAt}
 use Rattle.sheets.specs.Readings.{flowsIn}
@@ -43,20 +43,17 @@ module _ (s before : List ℕ) (at i : ℕ) (list : List ℕ) (pack : PackAt s b
   pub pack-next : (x : LineAt) → x ≡ lineAt at s → (f : Flow) → x .line ≡ Of f → (new : List ℕ) → length new ≡ length list → new ≡ recordAfter f i list
       → PackAt s before (x .end) (i + 1) new
   pack-next x g f o new l w =
-      let rest : List ℕ = records (flowsIn (drop (x .end) s)) in
-      let next : records (flowsIn (drop at s)) ≡ packedFlow f ++ rest = ap records (flows-next s at x g f o) ∙ records-is f (flowsIn (drop (x .end) s)) in
-      let size : length (records (flowsIn (drop at s))) ≡ 6 + length rest =
-      ap length next ∙ length-append (packedFlow f) rest ∙ ap (λ (n : ℕ). n + length rest) (length-packed-flow f) in
-      let p = rw (flows-next s at x g f o) at (pack .kept) in
-      let put : new ≡ sets list (place i) (packedFlow f) = w ∙ record-written f i list (keeps-is f (p .0)) (omega (arith, size, pack .room-left)) in
-      let behind : place (i + 1) ≡ place i + length (packedFlow f) = omega (arith, length-packed-flow f) in
+      let next = flows-next s at x g f o in
+      let size : length (records (flowsIn (drop at s))) ≡ 6 + length (records (flowsIn (drop (x .end) s))) =
+      ap (λ (fs : List Flow). length (records fs)) next ∙ length-records (f ∷ flowsIn (drop (x .end) s)) ∙ omega (arith, length-records (flowsIn (drop (x .end) s))) in
+      let p = rw next at (pack .kept) in
       record {
         kept = p .1;
         room-left = omega (arith, size, pack .room-left);
         writes =
-            ap₂ (λ (r : List ℕ) (n : ℕ). sets r n rest) put behind
-            ∙ sym (sets-append list (place i) (packedFlow f) rest)
-            ∙ ap (sets list (place i)) (sym next)
+            ap (λ (r : List ℕ). sets r (place (i + 1)) (records (flowsIn (drop (x .end) s)))) w
+            ∙ record-next f (flowsIn (drop (x .end) s)) i list (keeps-is f (p .0)) (omega (arith, size, pack .room-left))
+            ∙ ap (λ (fs : List Flow). sets list (place i) (records fs)) (sym next)
             ∙ pack .writes;
       }
 
