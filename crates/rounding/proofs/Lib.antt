@@ -1,0 +1,4 @@
+pub mod Powers
+pub mod Looking
+pub mod Writing
+pub mod Answering
