@@ -27,7 +27,7 @@ abbrev pub flow : ℕ → ℕ → ℕ → ℕ → Flow
 flow n s i j = record { number = n; size = s; interval = i; jitter = j }
 
 -- flow, start, late
-abbrev grant : ℕ → ℕ → ℕ → Grant
+abbrev pub grant : ℕ → ℕ → ℕ → Grant
 grant f s l = record { flow = f; start = s; late = l }
 
 -- a case: a list that is planned to these grants, one that is refused, or a table and what the check answers

@@ -17,7 +17,7 @@ use Rattle.flows.specs.Flows.{newFlow}
 use Rattle.refusals.specs.declared.Refusal.{Refusal}
 use Rattle.refusals.specs.declared.Checked.{Checked}
 use Rattle.refusals.specs.declared.Checked.the-variants.{Passed, Refused}
-use Rattle.refusals.specs.declared.Refusal.the-variants.{Room, Encoding, MissingSetting, NotWhole}
+use Rattle.refusals.specs.declared.Refusal.the-variants.{Room, Encoding, MissingSetting, NotWhole, BelowBase}
 use Rattle.refusals.specs.declared.Written.{Written}
 use Rattle.refusals.specs.declared.Written.the-variants.{Bytes, Refused as Stopped}
 use Rattle.refusals.specs.Tests.{_⟫_}
@@ -27,7 +27,7 @@ use Rattle.refusals.proofs.Chains.{chain-assoc, unless-passed}
 use Rattle.refusals.proofs.Exactly.{first-fault, lowest-place}
 use Rattle.lists.specs.Lists.{flowsOf, listOf}
 use Rattle.lists.specs.Facts.{grants}
-use Rattle.lists.specs.Tests.{test3, test4, test5, test6, test7, tests1to4, tests1to7}
+use Rattle.lists.specs.Tests.{test3, test4, test5, test6, test7, tests1to4, tests1to5, tests1to7}
 use Rattle.sheets.specs.Texts.{text}
 use Rattle.sheets.specs.Readings.{flowsIn}
 use Rattle.sheets.specs.Tests.{test20, sheetTests}
@@ -44,8 +44,10 @@ use Rattle.settings.specs.Runs.{items}
 use Rattle.settings.specs.Encodings.{sound, complete}
 use Rattle.settings.specs.Slots.{Channel, channel, wholeSlots, flowsAsked}
 use Rattle.settings.specs.Tests.{test26, test23, test24, test25, settingsTests, settingsAnswer}
-use Rattle.hub.specs.Chains.{chain1to4, chain1to7, planChain, formChain, lawChain, checkChain, windowChain, roomTest, sheetChain, listChain, newChain, addChain, settingsChain}
-use Rattle.hub.specs.Statements.{Writes, Check, Window, LiveAdd, ListFromSettings}
+use Rattle.bases.specs.Rounding.{roundedFlows}
+use Rattle.bases.specs.Tests.{test27, reaches, test28, roundTests, roundAnswer}
+use Rattle.hub.specs.Chains.{chain1to4, chain1to5, chain1to7, planChain, formChain, lawChain, checkChain, windowChain, roomTest, sheetChain, listChain, newChain, addChain, settingsChain, roundChain}
+use Rattle.hub.specs.Statements.{Writes, Check, Window, LiveAdd, ListFromSettings, RoundList}
 use Rattle.windows.proofs.Contents.{one-stretch}
 use Rattle.planner.proofs.Passes.{plan-answers}
 use Rattle.offsets.proofs.Joining.{length-new-list, length-new-table}
@@ -79,6 +81,10 @@ last-three a b c = ap (λ (x : Checked). a ⟫ x) (last-two b c)
 pub tests-1-to-4 : (l : List ℕ) → inOrder (chain1to4 l) ≡ tests1to4 l
 unfolding inOrder tests1to4
 tests-1-to-4 l = rw (one-last (test4 (flowsOf l)))
+
+pub tests-1-to-5 : (l : List ℕ) → inOrder (chain1to5 l) ≡ tests1to5 l
+unfolding tests1to5
+tests-1-to-5 l = in-order-append (chain1to4 l) _ ∙ ap₂ _⟫_ (tests-1-to-4 l) (last-one (test5 (flowsOf l)))
 
 pub tests-1-to-7 : (l : List ℕ) → inOrder (chain1to7 l) ≡ tests1to7 l
 unfolding tests1to7
@@ -126,6 +132,17 @@ settings-tests ch s n =
     let fs = flowsAsked ch s in
     in-order-append (test26 ch ∷ test23 s ∷ test24 s ∷ test25 ch s ∷ test3 (length fs) ∷ test4 fs ∷ test5 fs ∷ test6 fs ∷ []) (roomTest (listOf fs) n ∷ [])
     ∙ rw (one-last (test6 fs), one-last (roomTest (listOf fs) n))
+
+-- a chain of rounding is its tests and then the room's
+pub round-tests : (c : ℕ) (l : List ℕ) (n : ℕ) → inOrder (roundChain c l n) ≡ (roundTests c l ⟫ roomTest (listOf (roundedFlows c (flowsOf l))) n)
+unfolding roundTests
+round-tests c l n =
+    let new = roundedFlows c (flowsOf l) in
+    in-order-append (chain1to5 l) _
+    ∙ ap₂ _⟫_ (tests-1-to-5 l)
+    (in-order-append (test27 c ∷ test28 c (flowsOf l) ∷ test4 new ∷ []) (roomTest (listOf new) n ∷ [])
+    ∙ ap₂ _⟫_ (last-three (test27 c) (test28 c (flowsOf l)) (test4 new)) (last-one (roomTest (listOf new) n)))
+    ∙ sym (chain-assoc (tests1to5 l) _ _)
 
 -- ---- each refusal exactly
 
@@ -220,6 +237,15 @@ pub settings-25 : (ch : Channel) (s : List ℕ) (r : Refusal) → (test25 ch s �
 unfolding test25
 settings-25 ch s = lowest-place NotWhole 1 (map (wholeSlots ch) (items s))
 
+-- rounding refuses exactly by the first of tests 1 to 5, 27, 28, 4 on the new list, and 9 that finds fault
+pub round-refuses : (c : ℕ) (l : List ℕ) (n : ℕ) (r : Refusal) → (roundAnswer c l n ≡ Stopped r) ↔ FirstFault (roundChain c l n) r
+round-refuses c l n = writes-exactly (roundChain c l n) (roundTests c l) (listOf (roundedFlows c (flowsOf l))) n (round-tests c l n)
+
+-- 28 names the first record whose interval is below the base
+pub round-28 : (c : ℕ) (fs : List Flow) (r : Refusal) → (test28 c fs ≡ Refused r) ↔ LowestPlace BelowBase 1 (map (reaches c) fs) r
+unfolding test28
+round-28 c fs = lowest-place BelowBase 1 (map (reaches c) fs)
+
 -- ---- a refusal alters no byte
 
 -- where an operation that writes refuses, its room is as it was
@@ -244,6 +270,10 @@ pub settings-untouched : (microseconds bytes : ℕ) (s room room′ : List ℕ) 
 settings-untouched microseconds bytes s room room′ r h =
     let ch = channel microseconds bytes in
     h .bytes ∙ refused-untouched (settingsTests ch s) (listOf (flowsAsked ch s)) room r (sym (h .result))
+
+-- where rounding is refused, the room is as it was
+pub round-untouched : (c : ℕ) (l room room′ : List ℕ) (r : Refusal) → RoundList c l room (Stopped r) room′ → room′ ≡ room
+round-untouched c l room room′ r h = h .bytes ∙ refused-untouched (roundTests c l) (listOf (roundedFlows c (flowsOf l))) room r (sym (h .result))
 
 -- ---- success writes exactly the needed bytes at the front, and the rest stays
 
@@ -303,9 +333,18 @@ settings-writes microseconds bytes s room room′ k h =
     let w = answer-writes (settingsTests ch s) (listOf (flowsAsked ch s)) room k (sym (h .result)) in
     (w .0, h .bytes ∙ w .1)
 
+-- rounding writes the list of the flows with their intervals rounded, and answers how many bytes it has
+pub round-writes : (c : ℕ) (l room room′ : List ℕ) (k : ℕ)
+    → RoundList c l room (Bytes k) room′
+    → let l′ = listOf (roundedFlows c (flowsOf l)) in
+    (k ≡ length l′) × (room′ ≡ l′ ++ drop (length l′) room)
+round-writes c l room room′ k h =
+    let w = answer-writes (roundTests c l) (listOf (roundedFlows c (flowsOf l))) room k (sym (h .result)) in
+    (w .0, h .bytes ∙ w .1)
+
 -- ---- any two results that a statement allows are equal
 
--- sheet to list, list to sheet, plan, modem settings to list
+-- sheet to list, list to sheet, plan, modem settings to list, rounding
 pub writes-once : (answer : ℕ → Written) (after : List ℕ → List ℕ) (room : List ℕ) (r q : Written) (room′ room″ : List ℕ)
     → Writes answer after room r room′ → Writes answer after room q room″ → (r ≡ q) × (room′ ≡ room″)
 writes-once answer after room r q room′ room″ a b = (a .result ∙ sym (b .result), a .bytes ∙ sym (b .bytes))

@@ -3,5 +3,7 @@ pub mod Demand2
 pub mod Demand3
 pub mod LiveAdd
 pub mod Settings
+pub mod Rounding
 pub mod Premise
 pub mod Cases
+pub mod Paging

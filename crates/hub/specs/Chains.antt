@@ -20,10 +20,16 @@ use Rattle.planner.specs.Plan.{test8, test9, test10}
 use Rattle.offsets.specs.Adding.{withNew, test21, test9 as bothRooms, test22}
 use Rattle.settings.specs.Slots.{Channel, flowsAsked}
 use Rattle.settings.specs.Tests.{test26, test23, test24, test25}
+use Rattle.bases.specs.Rounding.{roundedFlows}
+use Rattle.bases.specs.Tests.{test27, test28}
 
 -- 1 to 4 of a list
 abbrev pub chain1to4 : List ℕ → List Checked
 chain1to4 l = test1 l ∷ test2 l ∷ test3 (count l) ∷ test1exact l ∷ test4 (flowsOf l) ∷ []
+
+-- 1 to 5 of a list
+abbrev pub chain1to5 : List ℕ → List Checked
+chain1to5 l = chain1to4 l ++ (test5 (flowsOf l) ∷ [])
 
 -- 1 to 7 of a list
 abbrev pub chain1to7 : List ℕ → List Checked
@@ -80,3 +86,10 @@ abbrev pub settingsChain : Channel → List ℕ → ℕ → List Checked
 settingsChain ch s n =
     let fs = flowsAsked ch s in
     test26 ch ∷ test23 s ∷ test24 s ∷ test25 ch s ∷ test3 (length fs) ∷ test4 fs ∷ test5 fs ∷ test6 fs ∷ roomTest (listOf fs) n ∷ []
+
+-- "after 1 to 5: 27 base 0 or over 4,096, 28 interval below the base (record), then 4 on the new list, 9": a list and
+-- a base, for a room of n bytes
+abbrev pub roundChain : ℕ → List ℕ → ℕ → List Checked
+roundChain c l n =
+    let new = roundedFlows c (flowsOf l) in
+    chain1to5 l ++ (test27 c ∷ test28 c (flowsOf l) ∷ test4 new ∷ roomTest (listOf new) n ∷ [])

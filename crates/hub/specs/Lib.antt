@@ -2,4 +2,5 @@ pub mod Chains
 pub mod Statements
 pub mod NewPair
 pub mod Converted
+pub mod Rounded
 pub mod Codes

@@ -16,6 +16,7 @@ use Rattle.offsets.specs.declared.Added.{Added}
 use Rattle.offsets.specs.Adding.{addAnswer, listRoom as newListRoom, tableRoom as newTableRoom}
 use Rattle.settings.specs.Slots.{channel}
 use Rattle.settings.specs.Tests.{settingsAnswer, settingsRoom}
+use Rattle.bases.specs.Tests.{roundAnswer, roundRoom}
 
 -- an operation that writes: r is its answer and room′ the room afterwards
 pub record Writes (answer : ℕ → Written) (after : List ℕ → List ℕ) (room : List ℕ) (r : Written) (room′ : List ℕ) : Type 0 where
@@ -53,3 +54,7 @@ abbrev pub ListFromSettings : (microseconds bytes : ℕ) (s room : List ℕ) (r 
 ListFromSettings microseconds bytes s room r room′ =
     let ch = channel microseconds bytes in
     Writes (settingsAnswer ch s) (settingsRoom ch s) room r room′
+
+-- rounding the intervals of a list to a base
+abbrev pub RoundList : (c : ℕ) (l room : List ℕ) (r : Written) (room′ : List ℕ) → Type 0
+RoundList c l room r room′ = Writes (roundAnswer c l) (roundRoom c l) room r room′

@@ -11,6 +11,7 @@ ghost use Rattle.windows.specs.Window.{edgesOf};
 ghost use Rattle.offsets.specs.Adding.{addAnswer, listRoom as newListRoom, tableRoom as newTableRoom};
 ghost use Rattle.settings.specs.Slots.{channel};
 ghost use Rattle.settings.specs.Tests.{settingsAnswer, settingsRoom};
+ghost use Rattle.bases.specs.Tests.{roundAnswer, roundRoom};
 ghost use Rattle.hub.specs.Codes.{code, value, checkCode, checkValue, windowCode, windowFirst, windowBytes, addCode, addValue};
 use offsets::Added;
 use refusals::Checked;
@@ -175,5 +176,21 @@ pub extern "C" fn snowploughy_list_from_settings(
     ensures room { λ _. ⌜ now (room .exit) ≡ settingsRoom (channel «slot_microseconds» «slot_bytes») (now (settings .entry)) (now (room .entry)) ⌝ }
 {
     let made = converting::list_from_settings(settings, slot_microseconds, slot_bytes, room);
+    report(made, out)
+}
+
+// Rounding a list's intervals to a base: tests 1 to 5, 27, 28, 4 on the new list, and 9.
+#[no_mangle]
+pub extern "C" fn snowploughy_round_list(
+    list: &[u8],
+    base: u64,
+    room: &mut [u8],
+    out: &mut u64,
+) -> u32
+    ensures number { λ r. ⌜ r ≡ code (roundAnswer base (now (list .entry)) (length (now (room .entry)))) ⌝ }
+    ensures value { λ _. ⌜ now (out .exit) ≡ value (roundAnswer base (now (list .entry)) (length (now (room .entry)))) ⌝ }
+    ensures room { λ _. ⌜ now (room .exit) ≡ roundRoom base (now (list .entry)) (now (room .entry)) ⌝ }
+{
+    let made = rounding::round_list(list, base, room);
     report(made, out)
 }

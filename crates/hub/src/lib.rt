@@ -10,6 +10,7 @@ pub use offsets::Added;
 pub use planner::plan;
 pub use printing::sheet_from_list;
 pub use reading::list_from_sheet;
+pub use rounding::round_list;
 pub use windows::Edges;
 pub use windows::edges_of;
 pub use windows::window;
