@@ -19,6 +19,7 @@ static uint64_t new_number, new_interval;
 static uint8_t settings[128 * 257];
 static size_t settings_len;
 static uint64_t slot_microseconds, slot_bytes;
+static uint64_t rounding_base;
 
 static void nothing(void) {}
 static void pack(void) { snowploughy_list_from_sheet(sheet, sheet_len, room, room_len, &value); }
@@ -30,6 +31,7 @@ static void add(void) {
     snowploughy_live_add(list, list_len, table, table_len, new_number, 1, new_interval, 0, list_room, list_room_len, table_room, table_room_len, &value);
 }
 static void ask(void) { snowploughy_list_from_settings(settings, settings_len, slot_microseconds, slot_bytes, room, room_len, &value); }
+static void fit(void) { snowploughy_round_list(list, list_len, rounding_base, room, room_len, &value); }
 static void run(void) { call(); }
 
 static size_t depth(void (*f)(void)) {
@@ -109,6 +111,28 @@ static size_t deepest_request(void) {
     return most;
 }
 
+/* The deepest stack of rounding a list of n flows: to bases up to its shortest interval, and refused by each test that a change of the
+ * list or of the base can bring about. */
+static size_t deepest_rounding(unsigned n, unsigned frame) {
+    struct { size_t cut; uint64_t base; unsigned last; uint8_t front; } changes[] = {
+        {0, frame, n, 0x11}, {0, 1, n, 0x11}, {0, frame - 1, n, 0x11}, {1, frame, n, 0x11}, {0, frame, n, 0x12}, {0, frame, 1, 0x11},
+        {0, 0, n, 0x11}, {0, 4097, n, 0x11}, {0, UINT64_MAX, n, 0x11}, {0, frame + 1, n, 0x11}, {0, 4096, n, 0x11}};
+    size_t most = 0, whole = list_len;
+    for (size_t c = 0; c < sizeof changes / sizeof *changes; c++) {
+        list_len = whole > changes[c].cut ? whole - changes[c].cut : 0;
+        rounding_base = changes[c].base;
+        list[0] = changes[c].front;
+        /* the number of the last record, 10 bits; 1 is that of the first */
+        if (whole) {
+            list[whole - 6] = changes[c].last >> 2;
+            list[whole - 5] = (list[whole - 5] & 63) | changes[c].last << 6;
+        }
+        size_t d = depth(fit);
+        if (d > most) most = d;
+    }
+    return most;
+}
+
 int main(void) {
     struct { const char *name; void (*f)(void); size_t most; } calls[] = {
         {"list_from_sheet", pack, 0}, {"sheet_from_list", print, 0}, {"plan", plan, 0}, {"check", check, 0}, {"window", window, 0}, {"live_add", add, 0}};
@@ -141,7 +165,21 @@ int main(void) {
             if (d > deepest) deepest = d;
         }
     }
+    /* rounding: intervals that are not related, 128 flows with the most powers of two, unrelated and with the longest intervals, a last
+     * size that the new interval does not hold, and no list */
+    unsigned unrounded[][6] = {{3, 1, 6, 20, 30, 5}, {128, 2, 1, 1, 4096, 0}, {128, 64, 28, 16, 4095, 15}, {128, 0, 4095, 4096, 4096, 0},
+                               {128, 127, 39, 20, 39, 5}, {0, 0, 0, 1, 1, 0}};
+    size_t deepest_round = 0;
+    for (size_t l = 0; l < sizeof unrounded / sizeof *unrounded; l++) {
+        unsigned *u = unrounded[l];
+        for (room_len = 0; room_len <= sizeof room; room_len += sizeof room) {
+            make(u[0], u[1], u[2], u[3], u[4], u[5]);
+            size_t d = deepest_rounding(u[0], u[3]) - base;
+            if (d > deepest_round) deepest_round = d;
+        }
+    }
     for (size_t c = 0; c < count; c++) printf("stack of snowploughy_%s: %zu bytes\n", calls[c].name, calls[c].most);
     printf("stack of snowploughy_list_from_settings: %zu bytes\n", deepest);
+    printf("stack of snowploughy_round_list: %zu bytes\n", deepest_round);
     return 0;
 }

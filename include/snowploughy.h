@@ -50,7 +50,9 @@ enum snowploughy_refusal {
                                       wrong length: place is the encoding, counted from 1 */
     SNOWPLOUGHY_MISSING_SETTING = 24, /* one of the four settings missing: encoding */
     SNOWPLOUGHY_NOT_WHOLE = 25,    /* interval not a whole number of slots: encoding */
-    SNOWPLOUGHY_NO_CHANNEL = 26    /* slot length or bytes in a slot 0 */
+    SNOWPLOUGHY_NO_CHANNEL = 26,   /* slot length or bytes in a slot 0 */
+    SNOWPLOUGHY_NO_BASE = 27,      /* base 0 or over 4,096 */
+    SNOWPLOUGHY_BELOW_BASE = 28    /* interval below the base: record */
 };
 
 /* Each answers 0 when its work is done, and otherwise the refusal's number.
@@ -78,6 +80,12 @@ uint32_t snowploughy_live_add(const uint8_t *list, size_t list_len, const uint8_
  * refusal's number. Done, *value is how many bytes of list stand at the room's front; refused, *value is the place. */
 uint32_t snowploughy_list_from_settings(const uint8_t *settings, size_t settings_len, uint64_t slot_microseconds, uint64_t slot_bytes,
                                         uint8_t *room, size_t room_len, uint64_t *value);
+
+/* Rounds the intervals of a list to a base. Each interval becomes the largest base times a power of two not above it; the size
+ * stays, and the jitter is capped at the new interval less one. The intervals of the old list need not be related; those of the
+ * rounded list always are. Answers 0 or the refusal's number. Done, *value is how many bytes of list stand at the room's front, as
+ * many as the old list has; refused, *value is the place. */
+uint32_t snowploughy_round_list(const uint8_t *list, size_t list_len, uint64_t base, uint8_t *room, size_t room_len, uint64_t *value);
 
 #ifdef __cplusplus
 }

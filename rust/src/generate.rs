@@ -39,6 +39,11 @@ pub enum Case {
         channel: [u64; 2],
         room: usize,
     },
+    RoundList {
+        list: Vec<u8>,
+        base: u64,
+        room: usize,
+    },
 }
 
 /// The byte that a room holds everywhere before its call.
@@ -55,6 +60,7 @@ impl Case {
             Case::Window { .. } => "window",
             Case::LiveAdd { .. } => "add",
             Case::ListFromSettings { .. } => "settings",
+            Case::RoundList { .. } => "round",
         }
     }
 
@@ -76,6 +82,7 @@ impl Case {
             Case::ListFromSettings { settings, channel, room } => {
                 (7, string(settings)?, numbers(&[channel[0], channel[1], *room as u64])?)
             }
+            Case::RoundList { list, base, room } => (8, string(list)?, numbers(&[*base, *room as u64])?),
         };
         Some([vec![operation], strings, numbers.concat()].concat())
     }
@@ -132,7 +139,7 @@ impl Random {
 
     /// A random case of any operation.
     pub fn case(&mut self) -> Case {
-        match self.below(10) {
+        match self.below(12) {
             0 => {
                 let sheet = self.sheet();
                 let room = self.room(base::LONGEST_LIST, |room| base::list_from_sheet(&sheet, room));
@@ -158,7 +165,8 @@ impl Random {
                 Case::Window { table, a, b }
             }
             6 | 7 => self.live_add(),
-            _ => self.list_from_settings(),
+            8 | 9 => self.list_from_settings(),
+            _ => self.round_list(),
         }
     }
 
@@ -1055,6 +1063,98 @@ impl Random {
                     }
                 }
             }
+        }
+    }
+
+    // -----------------------------------------------------------------------------------------------------------------
+    // Rounding
+    // -----------------------------------------------------------------------------------------------------------------
+
+    /// A list and a base, more than half of them such that the list can be rounded.
+    pub fn round_list(&mut self) -> Case {
+        let (mut flows, meant) = self.flows_and_base();
+        let base = self.base(&flows, meant);
+        if self.one_in(8) {
+            self.damage_flows(&mut flows);
+        }
+        let mut list = samples::list(&flows);
+        if self.one_in(10) {
+            self.damage_packed(&mut list, 4, 6);
+        }
+        let room = self.room(base::LONGEST_LIST, |room| base::round_list(&list, base, room));
+        Case::RoundList { list, base, room }
+    }
+
+    /// Flows that keep the rules of their fields, and a base that none of their intervals is below: related flows with
+    /// their frame or a divisor of it, or flows of any intervals.
+    fn flows_and_base(&mut self) -> (Vec<Fields>, u32) {
+        if self.one_in(5) {
+            let flows = self.flows();
+            let base = if self.one_in(2) { frame(&flows) } else { self.divisor(frame(&flows)) };
+            return (flows, base);
+        }
+        let base = match self.below(6) {
+            0 => self.between(1, 4096),
+            1 => self.pick(&[1, 2, 3, 1023, 1024, 2047, 2048, 2049, 4095, 4096]),
+            2 => 1 << self.below(13),
+            _ => self.between(1, 100),
+        };
+        let most = self.pick(&[1, 2, 3, 4, 6, 12, 48, 128]);
+        let count = if self.one_in(4) { most } else { self.between(1, most) };
+        // A size over the rounded interval spoils the whole list: in few lists, and there in few flows.
+        let oversized = self.one_in(6);
+        let mut flows: Vec<_> = (1..=count)
+            .map(|number| {
+                let oversized = oversized && self.one_in(count as usize);
+                self.flow_to_round(number, base, oversized)
+            })
+            .collect();
+        self.arrange(&mut flows);
+        (flows, base)
+    }
+
+    /// A flow whose interval becomes the base times some power of two, from the shortest such interval to the longest:
+    /// with a size up to the new interval or over it, and a jitter about the new interval or any.
+    fn flow_to_round(&mut self, number: u32, base: u32, oversized: bool) -> Fields {
+        let rounded = base << self.between(0, (4096 / base).ilog2());
+        let longest = (2 * rounded - 1).min(4096);
+        let interval = match self.below(6) {
+            0 => rounded,
+            1 => longest,
+            2 => longest.min(rounded + 1),
+            _ => self.between(rounded, longest),
+        };
+        let greatest = rounded.min(4095);
+        let size = match self.below(8) {
+            _ if oversized => (rounded + 1).max(self.between(rounded, interval)).min(interval).min(4095),
+            0 => greatest,
+            1 | 2 => self.between(1, greatest),
+            _ => self.between(1, greatest.min(4)),
+        };
+        let jitter = match self.below(6) {
+            0 => 0,
+            1 => rounded - 1,
+            2 => rounded.min(interval - 1),
+            3 => interval - 1,
+            _ => self.between(0, interval - 1),
+        };
+        [number, size, interval, jitter]
+    }
+
+    /// A base: mostly that which is meant for the flows, and otherwise one at a limit, about the shortest interval, any
+    /// or very large.
+    fn base(&mut self, flows: &[Fields], meant: u32) -> u64 {
+        let (meant, shortest) = (u64::from(meant), u64::from(frame(flows)));
+        match self.below(24) {
+            0 => self.pick(&[0, 0, 4097, 4098]),
+            1 => self.pick(&[1, 2, 4095, 4096]),
+            2 => self.pick(&[shortest - 1, shortest, shortest + 1]),
+            3 => self.between(1, 4096).into(),
+            4 => self.pick(&[8192, 65_535, 65_536, u64::from(u32::MAX), 1 << 32, (1 << 32) + 1, 1 << 63, u64::MAX]),
+            // What is right once it is cut to the width of a field or of a machine's word.
+            5 => meant + (1 << self.pick(&[13, 16, 32, 48, 63])),
+            6 => self.next() >> self.below(64),
+            _ => meant,
         }
     }
 }

@@ -48,6 +48,14 @@ extern "C" {
         room_len: usize,
         value: *mut u64,
     ) -> u32;
+    fn snowploughy_round_list(
+        list: *const u8,
+        list_len: usize,
+        base: u64,
+        room: *mut u8,
+        room_len: usize,
+        value: *mut u64,
+    ) -> u32;
 }
 
 pub fn list_from_sheet(sheet: &[u8], room: &mut [u8]) -> Result<usize, Refusal> {
@@ -135,6 +143,15 @@ pub fn list_from_settings(
             &mut value,
         )
     };
+    answer(number, value).map(|bytes| bytes as usize)
+}
+
+pub fn round_list(list: &[u8], base: u64, room: &mut [u8]) -> Result<usize, Refusal> {
+    let mut value = UNSET;
+    // SAFETY: both pointers come with the length of their slice; a shared and a mutable slice do not overlap; `value`
+    // outlives the call.
+    let number =
+        unsafe { snowploughy_round_list(list.as_ptr(), list.len(), base, room.as_mut_ptr(), room.len(), &mut value) };
     answer(number, value).map(|bytes| bytes as usize)
 }
 

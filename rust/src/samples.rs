@@ -11,6 +11,14 @@ pub const CASE_A: [Flow; 3] = [(1, 4, 2), (2, 8, 0), (3, 8, 0)];
 /// Case C of document 01 with 1/4/1: grants at 0, 1 and 5, the last one late by 1.
 pub const CASE_C: [Flow; 2] = [(1, 4, 1), (4, 8, 0)];
 
+/// The flows of the paging customer in document 02, whose intervals do not divide one another.
+pub const PAGING: [Flow; 3] = [(4, 20, 5), (6, 30, 25), (5, 50, 45)];
+
+/// 128 flows with intervals of 4,084, 4,052 and so on down to 20, each with the greatest jitter.
+pub fn unrelated() -> Vec<Flow> {
+    (0..128).rev().map(|index| (1 + index % 16, 20 + 32 * index, 19 + 32 * index)).collect()
+}
+
 /// 128 flows over 256 frames. Every group leaves full frames behind that the next one pushes.
 pub fn long_pushes() -> Vec<Flow> {
     with_long_pushes([(3, 4096, 4095); 89])

@@ -1,4 +1,4 @@
-//! Live add and modem settings, requests L1 and L2 of document 02: cases worked by hand.
+//! Live add, modem settings and rounding, requests L1 to L3 of document 02: cases worked by hand.
 
 use harness::base::{self, Refusal};
 use harness::samples::{self, encoding, four_settings, setting, Flow};
@@ -703,4 +703,228 @@ fn the_settings_that_are_measured() {
     assert_eq!(listed(&samples::settings_among_others()), flows(&one_by_one));
     assert_eq!(samples::settings_one_by_one().len(), 128 * 21);
     assert_eq!(samples::settings_among_others().len(), 128 * 257);
+}
+
+// ---------------------------------------------------------------------------------------------------------------------
+// Rounding
+// ---------------------------------------------------------------------------------------------------------------------
+
+/// The answer for a list and a base in a room of this length. A refusal writes nothing, and what is not needed stays.
+fn round_in(list: &[u8], base: u64, room: usize) -> Listed {
+    let mut room = vec![0xA5; room];
+    let answer = base::round_list(list, base, &mut room);
+    let length = answer.unwrap_or(0);
+    assert!(room[length..].iter().all(|&byte| byte == 0xA5), "the rest stays");
+    room.truncate(length);
+    answer.map(|_| room).map_err(|Refusal { number, place }| (number, place))
+}
+
+/// The answer for the flows 1, 2, ... and a base, in a room that is longer than needed.
+fn round(flows: &[Flow], base: u64) -> Listed {
+    round_in(&samples::list(&samples::numbered(flows)), base, 1000)
+}
+
+/// The refusal's number when a list is planned, 0 if there is none.
+fn plan_refusal(list: &[u8]) -> u32 {
+    base::plan(list, &mut [0; base::LONGEST_TABLE]).err().map_or(0, |refusal| refusal.number)
+}
+
+#[test]
+fn a_rounded_list_byte_for_byte() {
+    // Flow 2 of 6/30/25 for the base 20: 6/20/19. Number 2 in 10 bits, 6 in 12, 20 in 13 and 19 in 13.
+    let list = [0x11, 0, 0, 1, 0x00, 0x80, 0x18, 0x03, 0xC0, 0x19];
+    let rounded = [0x11, 0, 0, 1, 0x00, 0x80, 0x18, 0x02, 0x80, 0x13];
+    assert_eq!(list.to_vec(), samples::list(&[[2, 6, 30, 25]]));
+    assert_eq!(round_in(&list, 20, 10), Ok(rounded.to_vec()));
+    assert_eq!(round_in(&list, 20, 11), Ok(rounded.to_vec()));
+}
+
+#[test]
+fn the_paging_customer() {
+    assert_eq!(round(&samples::PAGING, 20), flows(&[(4, 20, 5), (6, 20, 19), (5, 40, 39)]));
+    assert_eq!(round(&samples::PAGING, 15), flows(&[(4, 15, 5), (6, 30, 25), (5, 30, 29)]));
+    assert_eq!(round(&samples::PAGING, 10), flows(&[(4, 20, 5), (6, 20, 19), (5, 40, 39)]));
+    assert_eq!(round(&samples::PAGING, 1), flows(&[(4, 16, 5), (6, 16, 15), (5, 32, 31)]));
+    assert_eq!(round(&samples::PAGING, 21), Err((28, 1)));
+    // Now they can be planned.
+    let list = samples::list(&samples::numbered(&samples::PAGING));
+    assert_eq!(plan_refusal(&list), 6);
+    let rounded = round_in(&list, 20, list.len()).expect("a list");
+    let table = [[0, 1, 0], [4, 2, 0], [10, 3, 0], [20, 1, 0], [24, 2, 0]];
+    assert_eq!(samples::planned(&rounded), Some(samples::table(40, 20, &table)));
+    assert_eq!(base::load(&rounded), Ok(25));
+}
+
+#[test]
+fn the_largest_base_times_a_power_of_two_not_above_the_interval() {
+    for (interval, base, rounded) in [
+        (1, 1, 1),
+        (2, 1, 2),
+        (3, 1, 2),
+        (4, 1, 4),
+        (4095, 1, 2048),
+        (4096, 1, 4096),
+        (3, 3, 3),
+        (5, 3, 3),
+        (6, 3, 6),
+        (11, 3, 6),
+        (12, 3, 12),
+        (4096, 3, 3072),
+        (3071, 3, 1536),
+        (4095, 2048, 2048),
+        (4096, 2048, 4096),
+        (4096, 2049, 2049),
+        (4095, 4095, 4095),
+        (4096, 4095, 4095),
+        (4096, 4096, 4096),
+    ] {
+        assert_eq!(round(&[(1, interval, 0)], base), flows(&[(1, rounded, 0)]), "{interval} to {base}");
+    }
+}
+
+#[test]
+fn the_size_stays_and_the_jitter_is_capped() {
+    // The new interval is 20.
+    for (jitter, capped) in [(0, 0), (1, 1), (18, 18), (19, 19), (20, 19), (21, 19), (38, 19)] {
+        assert_eq!(round(&[(20, 39, jitter)], 20), flows(&[(20, 20, capped)]), "{jitter}");
+    }
+    // Of a new interval of 1 none is left.
+    assert_eq!(round(&[(1, 1, 0)], 1), flows(&[(1, 1, 0)]));
+    assert_eq!(round(&[(1, 4096, 4095)], 4095), flows(&[(1, 4095, 4094)]));
+    assert_eq!(round(&[(4095, 4096, 4095)], 4096), flows(&[(4095, 4096, 4095)]));
+}
+
+#[test]
+fn numbers_and_their_order_stay() {
+    let list = samples::list(&[[1023, 1, 50, 0], [7, 2, 20, 1], [512, 3, 30, 2], [1, 4, 20, 3]]);
+    let rounded = samples::list(&[[1023, 1, 40, 0], [7, 2, 20, 1], [512, 3, 20, 2], [1, 4, 20, 3]]);
+    assert_eq!(round_in(&list, 20, 28), Ok(rounded));
+}
+
+#[test]
+fn a_rounded_list_is_related_and_stays_as_it_is() {
+    let lists = [samples::PAGING.to_vec(), samples::unrelated(), vec![(1, 7, 0), (1, 11, 3), (1, 13, 12)]];
+    for old in &lists {
+        for base in [1, 2, 3, 5, 7] {
+            let rounded = round(old, base).expect("a list");
+            assert_ne!(plan_refusal(&rounded), 6, "{base}");
+            assert_eq!(round_in(&rounded, base, rounded.len()), Ok(rounded), "{base}");
+        }
+    }
+    // A related list with its frame as the base stays only if its intervals are the frame times powers of two.
+    assert_eq!(round(&samples::CASE_A, 4), flows(&samples::CASE_A));
+    assert_eq!(round(&[(1, 4, 2), (1, 12, 9)], 4), flows(&[(1, 4, 2), (1, 8, 7)]));
+}
+
+#[test]
+fn the_old_list_comes_first() {
+    let list = samples::list(&samples::numbered(&samples::PAGING));
+    // Each with a base that 27 refuses, and with one that 28 would.
+    for base in [0, 21, 4097, u64::MAX] {
+        assert_eq!(round_in(&[], base, 0), Err((1, 0)));
+        assert_eq!(round_in(&list[..3], base, 0), Err((1, 0)));
+        assert_eq!(round_in(&list[..21], base, 0), Err((1, 0)));
+        assert_eq!(round_in(&[&list[..], &[0]].concat(), base, 0), Err((1, 0)));
+        for (byte, number) in [(0, 2), (1, 2), (2, 3)] {
+            let mut wrong = list.clone();
+            wrong[byte] ^= 1;
+            assert_eq!(round_in(&wrong, base, 0), Err((number, 0)));
+        }
+        assert_eq!(round_in(&[0x11, 0, 0, 0], base, 0), Err((3, 0)));
+        for wrong in [[0, 1, 30, 0], [2, 0, 30, 0], [2, 31, 30, 0], [2, 1, 0, 0], [2, 1, 4097, 0], [2, 1, 30, 30]] {
+            let list = samples::list(&[[1, 1, 20, 0], wrong, [1, 1, 50, 0]]);
+            assert_eq!(round_in(&list, base, 0), Err((4, 2)), "{wrong:?}");
+        }
+        let used = samples::list(&[[1, 1, 20, 0], [2, 1, 30, 0], [1, 1, 50, 0], [2, 1, 50, 0]]);
+        assert_eq!(round_in(&used, base, 0), Err((5, 3)));
+    }
+}
+
+#[test]
+fn the_old_list_is_not_tested_by_6_to_8() {
+    let unrelated = [(1, 4, 0), (1, 6, 0), (1, 9, 0)];
+    assert_eq!(plan_refusal(&flows(&unrelated).expect("a list")), 6);
+    assert_eq!(round(&unrelated, 4), flows(&[(1, 4, 0), (1, 4, 0), (1, 8, 0)]));
+    // Too many frames, before and after.
+    let frames = [(1, 1, 0), (1, 4096, 0)];
+    assert_eq!(plan_refusal(&flows(&frames).expect("a list")), 7);
+    assert_eq!(round(&frames, 1), flows(&frames));
+    // Over 1,024 grants, before and after.
+    let grants = [(1, 16, 0), (1, 16, 0), (1, 16, 0), (1, 16, 0), (1, 4096, 0)];
+    assert_eq!(plan_refusal(&flows(&grants).expect("a list")), 7);
+    assert_eq!(round(&grants, 16), flows(&grants));
+    // Too great a load, before and after, and only after.
+    let load = [(3, 4, 0), (2, 4, 0)];
+    assert_eq!(plan_refusal(&flows(&load).expect("a list")), 8);
+    assert_eq!(round(&load, 4), flows(&load));
+    let fits = [(4, 7, 0), (3, 7, 0)];
+    assert_eq!(plan_refusal(&flows(&fits).expect("a list")), 0);
+    assert_eq!(round(&fits, 4), flows(&[(4, 4, 0), (3, 4, 0)]));
+    assert_eq!(plan_refusal(&round(&fits, 4).expect("a list")), 8);
+}
+
+#[test]
+fn a_base_from_1_to_4096() {
+    let longest = [(1, 4096, 0)];
+    assert_eq!(round(&longest, 1), flows(&longest));
+    assert_eq!(round(&longest, 4096), flows(&longest));
+    let greatest = [4097, 4098, 8192, 65_536, 1 << 32, (1 << 32) + 1, (1 << 32) + 4096, 1 << 63, (1 << 63) + 1];
+    for base in greatest.into_iter().chain([0, u64::MAX]) {
+        assert_eq!(round(&longest, base), Err((27, 0)), "{base}");
+        // Before 28, before 4 on the new list and before 9.
+        assert_eq!(round(&samples::PAGING, base), Err((27, 0)), "{base}");
+        assert_eq!(round_in(&flows(&[(39, 39, 0)]).expect("a list"), base, 0), Err((27, 0)), "{base}");
+    }
+}
+
+#[test]
+fn an_interval_below_the_base() {
+    let old = [(1, 50, 0), (1, 20, 0), (1, 30, 0)];
+    assert_eq!(round(&old, 20), flows(&[(1, 40, 0), (1, 20, 0), (1, 20, 0)]));
+    assert_eq!(round(&old, 21), Err((28, 2)));
+    assert_eq!(round(&old, 30), Err((28, 2)));
+    assert_eq!(round(&old, 51), Err((28, 1)));
+    assert_eq!(round(&old, 4096), Err((28, 1)));
+    assert_eq!(round(&[(1, 4095, 0)], 4096), Err((28, 1)));
+    // Over the whole list before 4 on the new one, and before 9.
+    assert_eq!(round(&[(39, 39, 0), (1, 19, 0)], 20), Err((28, 2)));
+    assert_eq!(round_in(&flows(&old).expect("a list"), 21, 0), Err((28, 2)));
+}
+
+#[test]
+fn a_size_over_the_new_interval() {
+    // The old interval holds the size, the new one of 20 does not.
+    for size in [21, 22, 38, 39] {
+        assert_eq!(round(&[(1, 20, 0), (20, 39, 0), (size, 39, 0), (39, 39, 0)], 20), Err((4, 3)), "{size}");
+    }
+    assert_eq!(round(&[(20, 39, 0), (40, 40, 0)], 20), flows(&[(20, 20, 0), (40, 40, 0)]));
+    assert_eq!(round(&[(4095, 4095, 0)], 4095), flows(&[(4095, 4095, 0)]));
+    assert_eq!(round(&[(4095, 4095, 0)], 4094), Err((4, 1)));
+    // Before 9.
+    assert_eq!(round_in(&flows(&[(39, 39, 0)]).expect("a list"), 20, 0), Err((4, 1)));
+}
+
+#[test]
+fn a_room_too_short_for_the_rounded_list() {
+    let list = flows(&samples::PAGING).expect("a list");
+    for room in [0, 1, 4, 10, 21] {
+        assert_eq!(round_in(&list, 20, room), Err((9, 0)), "{room}");
+    }
+    for room in [22, 23, 5000] {
+        assert_eq!(round_in(&list, 20, room), flows(&[(4, 20, 5), (6, 20, 19), (5, 40, 39)]), "{room}");
+    }
+}
+
+#[test]
+fn the_roundings_that_are_measured() {
+    let unrelated = samples::unrelated();
+    let list = flows(&unrelated).expect("a list");
+    assert_eq!(list.len(), base::LONGEST_LIST);
+    assert_eq!((unrelated[0], unrelated[127]), ((16, 4084, 4083), (1, 20, 19)));
+    assert_eq!(plan_refusal(&list), 6);
+    assert_eq!(round(&unrelated[..1], 20), flows(&[(16, 2560, 2559)]));
+    assert_eq!(round(&unrelated[..1], 1), flows(&[(16, 2048, 2047)]));
+    assert!(round(&unrelated, 20).is_ok_and(|rounded| rounded.len() == base::LONGEST_LIST));
+    assert!(round(&unrelated, 1).is_ok_and(|rounded| rounded.len() == base::LONGEST_LIST));
+    assert_eq!(round_in(&list, 21, 0), Err((28, 128)));
 }

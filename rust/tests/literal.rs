@@ -1,8 +1,9 @@
-//! The placing rule, the check, the window, live add and modem settings once more, word by word and with no regard for
-//! speed, against the base on random inputs.
+//! The placing rule, the check, the window, live add, modem settings and rounding once more, word by word and with no
+//! regard for speed, against the base on random inputs.
 
 use harness::base;
 use harness::generate::{Case, Random};
+use harness::samples;
 use std::collections::BTreeMap;
 
 /// Number, size, interval and jitter.
@@ -239,6 +240,30 @@ fn random_live_adds() {
     assert!([1, 2].into_iter().chain(11..=18).all(|number| counts.contains_key(&number)), "{counts:?}");
 }
 
+/// Refuses the first record at fault.
+fn no_record(number: u32, flows: &[Flow], wrong: impl Fn(usize) -> bool) -> Result<(), (u32, u64)> {
+    (0..flows.len()).find(|&index| wrong(index)).map_or(Ok(()), |index| Err((number, index as u64 + 1)))
+}
+
+/// Test 4.
+fn fields_keep_their_rules(flows: &[Flow]) -> Result<(), (u32, u64)> {
+    no_record(4, flows, |index| {
+        let [number, size, interval, jitter] = flows[index];
+        let right = (1..=1023).contains(&number) && (1..=4095).contains(&size) && (1..=4096).contains(&interval);
+        !right || size > interval || jitter > interval - 1
+    })
+}
+
+/// Test 5.
+fn no_number_is_used_twice(flows: &[Flow]) -> Result<(), (u32, u64)> {
+    no_record(5, flows, |index| flows[..index].iter().any(|flow| flow[0] == flows[index][0]))
+}
+
+/// The smaller of two intervals divides the larger.
+fn related(one: usize, other: usize) -> bool {
+    one.max(other).is_multiple_of(one.min(other))
+}
+
 /// A type and its value.
 type Item<'a> = (u8, &'a [u8]);
 
@@ -304,17 +329,9 @@ fn ask(run: &[u8], [microseconds, bytes]: [u64; 2], room: usize) -> Result<Vec<F
     if flows.is_empty() || flows.len() > 128 {
         return Err((3, 0));
     }
-    let first = |number: u32, wrong: &dyn Fn(usize) -> bool| {
-        (0..flows.len()).find(|&index| wrong(index)).map_or(Ok(()), |index| Err((number, index as u64 + 1)))
-    };
-    first(4, &|index| {
-        let [number, size, interval, jitter] = flows[index];
-        let right = (1..=1023).contains(&number) && (1..=4095).contains(&size) && (1..=4096).contains(&interval);
-        !right || size > interval || jitter > interval - 1
-    })?;
-    first(5, &|index| flows[..index].iter().any(|flow| flow[0] == flows[index][0]))?;
-    let related = |one: usize, other: usize| one.max(other).is_multiple_of(one.min(other));
-    first(6, &|index| flows[..index].iter().any(|flow| !related(flow[2], flows[index][2])))?;
+    fields_keep_their_rules(&flows)?;
+    no_number_is_used_twice(&flows)?;
+    no_record(6, &flows, |index| flows[..index].iter().any(|flow| !related(flow[2], flows[index][2])))?;
     if room < 4 + 6 * flows.len() {
         return Err((9, 0));
     }
@@ -352,11 +369,111 @@ fn random_settings() {
     assert!(counts.values().all(|&count| count > 100), "{counts:?}");
 }
 
+/// The flows of a list with their intervals rounded to a base, for a room of this length.
+fn round(list: &[u8], base: u64, room: usize) -> Result<Vec<Flow>, (u32, u64)> {
+    if list.len() < 4 {
+        return Err((1, 0));
+    }
+    let head = fields(&list[..4], &[4, 4, 8, 16]);
+    if head[..3] != [1, 1, 0] {
+        return Err((2, 0));
+    }
+    if head[3] == 0 || head[3] > 128 {
+        return Err((3, 0));
+    }
+    if list.len() != 4 + 6 * head[3] {
+        return Err((1, 0));
+    }
+    let old = flows(list);
+    fields_keep_their_rules(&old)?;
+    no_number_is_used_twice(&old)?;
+    if base == 0 || base > 4096 {
+        return Err((27, 0));
+    }
+    let base = base as usize;
+    no_record(28, &old, |index| old[index][2] < base)?;
+    let becomes = |&[number, size, interval, jitter]: &Flow| {
+        let candidates = (0..=12).map(|power| base * 2_usize.pow(power));
+        let rounded = candidates.filter(|&candidate| candidate <= interval).max().expect("the base is not above it");
+        [number, size, rounded, if jitter > rounded - 1 { rounded - 1 } else { jitter }]
+    };
+    let new: Vec<Flow> = old.iter().map(becomes).collect();
+    fields_keep_their_rules(&new)?;
+    if room < list.len() {
+        return Err((9, 0));
+    }
+    Ok(new)
+}
+
+/// Compares one rounding with the base; answers the refusal's number, 0 if there is none.
+fn compare_rounding(list: &[u8], base: u64, room: usize) -> u32 {
+    let mut bytes = vec![0xA5; room];
+    let answer = base::round_list(list, base, &mut bytes);
+    let answer = answer.map_err(|refusal| (refusal.number, refusal.place));
+    let expected = round(list, base, room);
+    assert_eq!(answer, expected.clone().map(|_| list.len()), "{list:?} {base}");
+    let written = answer.unwrap_or(0);
+    if let Ok(new_flows) = expected {
+        let new_list = &bytes[..written];
+        assert_eq!(new_list[..4], list[..4]);
+        assert_eq!(flows(new_list), new_flows);
+        // All are related, planning finds so too, and rounding once more changes nothing.
+        assert!(new_flows.iter().all(|one| new_flows.iter().all(|other| related(one[2], other[2]))));
+        let planned = base::plan(new_list, &mut [0; base::LONGEST_TABLE]);
+        assert!(planned.err().is_none_or(|refusal| [7, 8, 10].contains(&refusal.number)), "{planned:?}");
+        let mut again = vec![0; written];
+        assert_eq!(base::round_list(new_list, base, &mut again), Ok(written));
+        assert_eq!(again, new_list);
+    }
+    assert!(bytes[written..].iter().all(|&byte| byte == 0xA5));
+    answer.err().map_or(0, |(number, _)| number)
+}
+
+#[test]
+fn random_roundings() {
+    let mut random = Random::new(11);
+    let mut counts = BTreeMap::new();
+    // Roundings of lists that planning refuses by 6, and those that 4 refuses on the new list alone.
+    let (mut unrelated, mut new_fields) = (0, 0);
+    for _ in 0..20_000 {
+        let Case::RoundList { list, base, room } = random.round_list() else {
+            unreachable!("a rounding");
+        };
+        let number = compare_rounding(&list, base, room);
+        *counts.entry(number).or_insert(0) += 1;
+        let planned = base::plan(&list, &mut [0; base::LONGEST_TABLE]).err().map_or(0, |refusal| refusal.number);
+        unrelated += usize::from(number == 0 && planned == 6);
+        new_fields += usize::from(number == 4 && fields_keep_their_rules(&flows(&list)).is_ok());
+    }
+    println!("roundings by refusal {counts:?}, done of unrelated ones {unrelated}, 4 on the new list {new_fields}");
+    assert!(counts.keys().eq(&[0, 1, 2, 3, 4, 5, 9, 27, 28]), "{counts:?}");
+    assert!(counts.values().all(|&count| count > 100), "{counts:?}");
+    assert!(unrelated > 1000 && new_fields > 100, "{unrelated} {new_fields}");
+}
+
+/// Every interval with every base: the interval is the base times a power of two, and twice it is above the old one.
+#[test]
+fn every_interval_to_every_base() {
+    for base in 1..=4096 {
+        for intervals in (base..=4096).collect::<Vec<_>>().chunks(128) {
+            let old: Vec<_> = intervals.iter().zip(1..).map(|(&interval, number)| [number, 1, interval, 0]).collect();
+            let list = samples::list(&old);
+            let mut room = vec![0; list.len()];
+            assert_eq!(base::round_list(&list, base.into(), &mut room), Ok(list.len()));
+            for (new, &interval) in flows(&room).iter().zip(intervals) {
+                let (rounded, base, interval) = (new[2], base as usize, interval as usize);
+                assert!(rounded.is_multiple_of(base) && (rounded / base).is_power_of_two());
+                assert!(rounded <= interval && interval < 2 * rounded);
+            }
+        }
+    }
+}
+
 #[test]
 fn random_inputs() {
     let mut random = Random::new(7);
     let (mut plans, mut without_a_frame, mut checks, mut windows) = (0, 0, 0, 0);
-    for _ in 0..6_000 {
+    for _ in 0..7_200 {
         match random.case() {
             Case::Plan { list, .. } => {
                 let mut table = [0; base::LONGEST_TABLE];
@@ -410,6 +527,9 @@ fn random_inputs() {
             }
             Case::ListFromSettings { settings, channel, room } => {
                 compare_settings(&settings, channel, room);
+            }
+            Case::RoundList { list, base, room } => {
+                compare_rounding(&list, base, room);
             }
         }
     }

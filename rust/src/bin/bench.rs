@@ -55,6 +55,18 @@ fn main() {
     settings("128 encodings, 1 grant each", &samples::settings_one_by_one());
     settings("1 encoding, 128 grants", &samples::settings_all_in_one());
     settings("128 encodings, 41 other settings in each", &samples::settings_among_others());
+
+    rounding("3 flows, base 20", &samples::PAGING, 20);
+    rounding("128 flows, base 20", &samples::unrelated(), 20);
+    // The most powers of two.
+    rounding("128 flows, base 1", &samples::unrelated(), 1);
+    // Refused by 28 at the last record.
+    let list = samples::list(&samples::numbered(&samples::unrelated()));
+    measure(
+        "rounding: 128 flows, base 21, refused",
+        || base::round_list(black_box(&list), black_box(21), &mut []),
+        || library::round_list(black_box(&list), black_box(21), &mut []),
+    );
 }
 
 /// Adds a flow to the planned table of others.
@@ -90,6 +102,18 @@ fn settings(name: &str, settings: &[u8]) {
     );
 }
 
+/// Rounds the intervals of flows to a base.
+fn rounding(name: &str, flows: &[samples::Flow], base: u64) {
+    let list = samples::list(&samples::numbered(flows));
+    writing(
+        &format!("rounding: {name}"),
+        &list,
+        base::LONGEST_LIST,
+        |list, room| base::round_list(list, black_box(base), room),
+        |list, room| library::round_list(list, black_box(base), room),
+    );
+}
+
 /// A sheet and its list, both ways.
 fn sheets(name: &str, list: &[u8], sheet: &[u8]) {
     let (to_list, to_sheet) = (format!("sheet to list: {name}"), format!("list to sheet: {name}"));
@@ -118,10 +142,17 @@ fn writing(
 fn compare<T: PartialEq + std::fmt::Debug>(
     name: &str,
     mut ours: impl FnMut() -> Result<T, Refusal>,
-    mut theirs: impl FnMut() -> Result<T, Refusal>,
+    theirs: impl FnMut() -> Result<T, Refusal>,
 ) {
     let answer = ours();
-    assert!(answer.is_ok() && answer == theirs(), "{name}: {answer:?} and {:?}", theirs());
+    assert!(answer.is_ok(), "{name}: {answer:?}");
+    measure(name, ours, theirs);
+}
+
+/// Prints the time of both calls, which must answer the same.
+fn measure<T: PartialEq + std::fmt::Debug>(name: &str, mut ours: impl FnMut() -> T, mut theirs: impl FnMut() -> T) {
+    let (our_answer, their_answer) = (ours(), theirs());
+    assert!(our_answer == their_answer, "{name}: {our_answer:?} and {their_answer:?}");
     let (our_calls, their_calls) = (calls_in_a_run(&mut ours), calls_in_a_run(&mut theirs));
     // Turn about, so that a disturbance from outside meets both.
     let times: [_; RUNS] =

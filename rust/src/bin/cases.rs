@@ -60,6 +60,10 @@ fn answer(stream: &mut &[u8]) -> Option<String> {
                 base::list_from_settings(settings, slot_microseconds.into(), slot_bytes.into(), room)
             })
         }
+        8 => {
+            let (list, base) = (string(stream)?, number(stream)?);
+            written("round", stream, |room| base::round_list(list, base.into(), room))
+        }
         _ => None,
     }
 }

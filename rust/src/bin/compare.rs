@@ -22,6 +22,9 @@ type LiveAdd = fn(&[u8], &[u8], [u64; 4], &mut [u8], &mut [u8]) -> Result<usize,
 /// Modem settings to a list, ours or theirs.
 type ListFromSettings = fn(&[u8], u64, u64, &mut [u8]) -> Result<usize, Refusal>;
 
+/// Rounding, ours or theirs.
+type RoundList = fn(&[u8], u64, &mut [u8]) -> Result<usize, Refusal>;
+
 fn main() {
     let mut arguments = env::args().skip(1).map(|argument| argument.parse().expect("cases and seed are numbers"));
     let cases: u64 = arguments.next().unwrap_or(100_000);
@@ -63,6 +66,7 @@ fn from_base(case: &Case) -> Outcome {
         Case::ListFromSettings { settings, channel, room } => {
             asked(base::list_from_settings, settings, *channel, *room)
         }
+        Case::RoundList { list, base, room } => rounded(base::round_list, list, *base, *room),
     }
 }
 
@@ -79,6 +83,7 @@ fn from_library(case: &Case) -> Outcome {
         Case::ListFromSettings { settings, channel, room } => {
             asked(library::list_from_settings, settings, *channel, *room)
         }
+        Case::RoundList { list, base, room } => rounded(library::round_list, list, *base, *room),
     }
 }
 
@@ -97,6 +102,12 @@ fn added(operation: LiveAdd, list: &[u8], table: &[u8], flow: [u64; 4], rooms: [
 fn asked(operation: ListFromSettings, settings: &[u8], channel: [u64; 2], room: usize) -> Outcome {
     let mut room = vec![ROOM_BYTE; room];
     let answer = operation(settings, channel[0], channel[1], &mut room).map(|length| (0, length));
+    Outcome { answer, rooms: vec![room] }
+}
+
+fn rounded(operation: RoundList, list: &[u8], base: u64, room: usize) -> Outcome {
+    let mut room = vec![ROOM_BYTE; room];
+    let answer = operation(list, base, &mut room).map(|length| (0, length));
     Outcome { answer, rooms: vec![room] }
 }
 
@@ -126,6 +137,7 @@ fn describe(case: &Case, ours: &Outcome, theirs: &Outcome) {
             println!("settings {}\nslots of {microseconds} microseconds and {bytes} bytes", hex(settings));
             println!("room {room} bytes");
         }
+        Case::RoundList { list, base, room } => println!("list {}\nbase {base}\nroom {room} bytes", hex(list)),
     }
     if let Some(bytes) = case.bytes() {
         println!("as an outside case {}", hex(&bytes));
