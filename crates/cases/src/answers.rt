@@ -149,3 +149,9 @@ pub fn convert(settings: &[u8], slot_microseconds: u64, slot_bytes: u64, room: &
     let answer = converting::list_from_settings(settings, slot_microseconds, slot_bytes, room);
     made(b"settings", answer, room);
 }
+
+// Rounding a list's intervals to a base.
+pub fn round(list: &[u8], base: u64, room: &mut [u8]) {
+    let answer = rounding::round_list(list, base, room);
+    made(b"round", answer, room);
+}

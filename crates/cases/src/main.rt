@@ -1,5 +1,5 @@
 // Answers the outside cases on standard input, a line for each: sheet to list (1), list to sheet (2), plan (3), check (4), window
-// (5), live add (6) and modem settings to list (7).
+// (5), live add (6), modem settings to list (7) and rounding (8).
 mod answers;
 mod print;
 mod stream;
@@ -109,6 +109,21 @@ fn converted(settings: &mut [u8], room: &mut [u8]) -> bool {
     true
 }
 
+// Reads a list, a base and the length of a room, and answers rounding.
+fn rounded(list: &mut [u8], room: &mut [u8]) -> bool {
+    let n = stream::string(list);
+    let base = stream::number();
+    let k = stream::number();
+    if list.len() < n {
+        return false;
+    }
+    if room.len() < k {
+        return false;
+    }
+    answers::round(&list[0..n], base as u64, &mut room[0..k]);
+    true
+}
+
 // Answers a case, and whether to go on.
 fn case() -> bool {
     let mut op = [0u8; 1];
@@ -131,7 +146,11 @@ fn case() -> bool {
                 if kind == 7 {
                     converted(&mut input, &mut room)
                 } else {
-                    written(kind, &mut input, &mut room)
+                    if kind == 8 {
+                        rounded(&mut input, &mut room)
+                    } else {
+                        written(kind, &mut input, &mut room)
+                    }
                 }
             }
         }
