@@ -1,7 +1,7 @@
 -- A record of a list, read and written at its place. Assumes nothing.
 use mathlib.Core.Path.{_≡_, refl, sym, ap}
 use mathlib.Core.List.{List, _++_}
-use Prim.Native.Nat.{ℕ, _-_, _/_, _≤_, _<_}
+use Prim.Native.Nat.{ℕ, _+_, _-_, _<_}
 use native.Mathlib.Omega.{arith}
 use lib.ListN.{length, getD, take, drop, length-drop}
 use Rattle.logic.proofs.Indices.{length-from, entry-is}
@@ -18,7 +18,7 @@ use Rattle.lists.specs.Lists.{place, count, flowAt, flowsFrom, flowsOf, 
 
 -- ---- reading
 
-pub flow-beyond : (l : List ℕ) (i : ℕ) → length l / 6 ≤ i → noFlow ≡ flowAt l i
+pub flow-beyond : (l : List ℕ) (i : ℕ) → length l < place i + 6 → noFlow ≡ flowAt l i
 unfolding flowAt
 flow-beyond l i h = sym (flow-short (drop (place i) l) (simp length-drop (omega arith)))
 
@@ -50,7 +50,7 @@ flow-is l = first-is l (count l)
 -- ---- writing
 
 module _ (f : Flow) (i : ℕ) (room : List ℕ) where
-  pub record-beyond : length room / 6 ≤ i → (Short ≡ recordStored f i (length room)) × (room ≡ recordAfter f i room)
+  pub record-beyond : length room < place i + 6 → (Short ≡ recordStored f i (length room)) × (room ≡ recordAfter f i room)
   unfolding recordStored recordAfter
   record-beyond h = ends-beyond ListRecord (place i) (fieldsOf f) room (omega arith)
 

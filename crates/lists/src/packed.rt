@@ -1,13 +1,17 @@
 // The head and the records of a packed list, read and written.
 ghost use mathlib.Core.Path.{_≡_};
-ghost use Prim.Native.Nat.{_<_};
+ghost use Prim.Native.Nat.{_+_, _<_};
+ghost use lib.Dec.{leb};
 ghost use lib.ListN.{length};
 ghost use Rattle.fields.specs.declared.kind.Kind.the-variants.{ListHead};
 ghost use Rattle.fields.specs.Records.{stored, roomAfter};
-ghost use Rattle.lists.specs.Lists.{count, flowAt, headFields, recordStored, recordAfter};
+ghost use Rattle.lists.specs.Lists.{place, count, flowAt, headFields, recordStored, recordAfter};
 use fields::Kind;
 use fields::Stored;
 use flows::Flow;
+
+// The last record whose end is within the numbers of its type.
+const LAST: usize = 3074457345618258600;
 
 // How many records the head says.
 pub fn count(list: &[u8]) -> usize
@@ -18,16 +22,33 @@ pub fn count(list: &[u8]) -> usize
     values[3] as usize
 }
 
+// A list of n bytes holds record i, counted from 0: its six bytes end before the list does.
+fn holds(n: usize, i: usize) -> bool
+    ensures { λ r. ⌜ r ≡ leb (place i + 6) n ⌝ }
+{
+    if LAST < i {
+        return false;
+    }
+    10 + 6 * i <= n
+}
+
 // The flow of record i, counted from 0; zeros where the list has no such record.
 pub fn flow_at(list: &[u8], i: usize) -> Flow
     ensures { λ r. ⌜ r ≡ flowAt (now (list .entry)) i ⌝ }
 {
     let end = list.len();
-    if end / 6 <= i {
+    if !holds(end, i) {
         return Flow::NONE;
     }
     let start = 4 + 6 * i;
-    flows::read(&list[start..end])
+    let found = fields::read(Kind::ListRecord, &list[start..end]);
+    let values = found.values;
+    Flow {
+        number: values[0],
+        size: values[1],
+        interval: values[2],
+        jitter: values[3],
+    }
 }
 
 // Puts the head of a list of n records at the room's front; the rest stays, and all of it where the answer is not `Done`.
@@ -44,9 +65,10 @@ pub fn write_record(f: Flow, i: usize, room: &mut [u8]) -> Stored
     ensures { λ _. ⌜ now (room .exit) ≡ recordAfter f i (now (room .entry)) ⌝ }
 {
     let end = room.len();
-    if end / 6 <= i {
+    if !holds(end, i) {
         return Stored::Short;
     }
     let start = 4 + 6 * i;
-    flows::write(f, &mut room[start..end])
+    let values = [f.number, f.size, f.interval, f.jitter, 0, 0];
+    fields::write(Kind::ListRecord, values, &mut room[start..end])
 }

@@ -1,10 +1,10 @@
 -- Cases by a test or an order, and tests joined by &&. Assumes nothing.
-use mathlib.Core.Path.{_≡_, refl}
-use mathlib.Core.Bool.{Bool, true, false, _&&_}
+use mathlib.Core.Path.{_≡_, refl, sym, _∙_}
+use mathlib.Core.Bool.{Bool, true, false, not, _&&_}
 use Prim.Native.Nat.{ℕ, _≤_, _<_}
 use native.Mathlib.Omega.{arith}
 use lib.Dec.{leb, ltb, eqb}
-use borrow.Author.Tests.{leb-true, ltb-true, ltb-false, eqb-true, eqb-false}
+use borrow.Author.Tests.{leb-true, leb-false, ltb-true, ltb-false, eqb-true, eqb-false, not-true, not-false}
 use Rattle.logic.specs.Numbers.{among}
 
 pub by-test {ℓ} : {P : Type ℓ} (b : Bool) → (b ≡ true → P) → (b ≡ false → P) → P
@@ -38,3 +38,11 @@ pub among-both : (a b x : ℕ) → among a b x ≡ true → (a ≤ x) × (x ≤ 
 among-both a b x h =
     let both = and-both (leb a x) (leb x b) h in
     (leb-true a x (both .0), leb-true x b (both .1))
+
+-- what the answer r to "a is at most b" tells where the code asks `!r`
+module _ (a b : ℕ) (r : Bool) (e : r ≡ leb a b) where
+  pub not-above : not r ≡ false → a ≤ b
+  not-above h = leb-true a b (sym e ∙ not-false r h)
+
+  pub above : not r ≡ true → b < a
+  above h = leb-false a b (sym e ∙ not-true r h)

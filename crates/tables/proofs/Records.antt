@@ -1,7 +1,7 @@
 -- A record of a table, read and written at its place. Assumes nothing.
 use mathlib.Core.Path.{_≡_, refl, sym}
 use mathlib.Core.List.{List, [], _∷_, _++_}
-use Prim.Native.Nat.{ℕ, _-_, _/_, _≤_, _<_}
+use Prim.Native.Nat.{ℕ, _+_, _-_, _<_}
 use native.Mathlib.Omega.{arith}
 use lib.ListN.{length, getD, take, drop, replicate, length-drop}
 use Rattle.logic.proofs.Tests.{by-lt}
@@ -18,9 +18,9 @@ use Rattle.tables.specs.Tables.{headOf, count, place, valuesAt, grantAt,
 
 -- ---- reading
 
-pub values-beyond : (t : List ℕ) (i k : ℕ) → k ≡ (length t - 8) / 5 → k ≤ i → replicate 6 0 ≡ valuesAt t i
+pub values-beyond : (t : List ℕ) (i : ℕ) → length t < place i + 5 → replicate 6 0 ≡ valuesAt t i
 unfolding valuesAt
-values-beyond t i k e h = sym (values-short TableRecord (drop (place i) t) (simp length-drop (omega arith)))
+values-beyond t i h = sym (values-short TableRecord (drop (place i) t) (simp length-drop (omega arith)))
 
 second : (vs : List ℕ) → Fit (10 ∷ 12 ∷ 12 ∷ 6 ∷ 0 ∷ 0 ∷ []) vs → getD vs 1 0 < 4096
 second (a ∷ []) f = absurd (f .1)
@@ -60,9 +60,9 @@ grant-is t d = entry-is (grantAt t) (grantsFrom t) (λ i. refl) (λ i n. refl) d
 -- ---- writing
 
 module _ (g : Grant) (i : ℕ) (room : List ℕ) where
-  pub record-beyond : (k : ℕ) → k ≡ (length room - 8) / 5 → k ≤ i → (Short ≡ recordStored g i (length room)) × (room ≡ recordAfter g i room)
+  pub record-beyond : length room < place i + 5 → (Short ≡ recordStored g i (length room)) × (room ≡ recordAfter g i room)
   unfolding recordStored recordAfter
-  record-beyond k e h = ends-beyond TableRecord (place i) (fieldsOf g) room (omega arith)
+  record-beyond h = ends-beyond TableRecord (place i) (fieldsOf g) room (omega arith)
 
   pub record-part : (a : Stored) (ys : List ℕ) → let part = take (length room - place i) (drop (place i) room) in
       a ≡ stored TableRecord (fieldsOf g) (length part) → ys ≡ roomAfter TableRecord (fieldsOf g) part

@@ -1,6 +1,7 @@
 // The head and the records of a packed table, read and written.
 ghost use mathlib.Core.Path.{_≡_};
-ghost use Prim.Native.Nat.{_-_, _/_, _≤_};
+ghost use Prim.Native.Nat.{_+_, _≤_};
+ghost use lib.Dec.{leb};
 ghost use lib.ListN.{length, drop};
 ghost use Rattle.fields.specs.declared.kind.Kind.the-variants.{TableHead, TableRecord};
 ghost use Rattle.fields.specs.Records.{reading, stored, roomAfter};
@@ -8,6 +9,9 @@ ghost use Rattle.tables.specs.Tables.{headFields, headOf, count, cycleOf
 use fields::Kind;
 use fields::Reading;
 use fields::Stored;
+
+// The last record whose end is within the numbers of its type.
+const LAST: usize = 3689348814741910320;
 
 // A grant of a table: its flow's number, the slot that it starts at and how late that is.
 pub struct Grant {
@@ -48,14 +52,14 @@ pub fn frame(table: &[u8]) -> u16
     head[5]
 }
 
-// How many whole records have room in n bytes.
-fn whole_records(n: usize) -> usize
-    ensures { λ r. ⌜ r ≡ (n - 8) / 5 ⌝ }
+// A table of n bytes holds record i, counted from 0: its five bytes end before the table does.
+fn holds(n: usize, i: usize) -> bool
+    ensures { λ r. ⌜ r ≡ leb (place i + 5) n ⌝ }
 {
-    if n < 8 {
-        return 0;
+    if LAST < i {
+        return false;
     }
-    (n - 8) / 5
+    13 + 5 * i <= n
 }
 
 // What is found at the place of record i, counted from 0.
@@ -72,7 +76,7 @@ pub(crate) fn record_at(table: &[u8], i: usize) -> Reading
 fn values_at(table: &[u8], i: usize) -> [u16; 6]
     ensures { λ r. ⌜ r ≡ valuesAt (now (table .entry)) i ⌝ }
 {
-    if whole_records(table.len()) <= i {
+    if !holds(table.len(), i) {
         return [0; 6];
     }
     let found = record_at(table, i);
@@ -113,7 +117,7 @@ pub fn write_record(g: Grant, i: usize, room: &mut [u8]) -> Stored
     ensures { λ _. ⌜ now (room .exit) ≡ recordAfter g i (now (room .entry)) ⌝ }
 {
     let end = room.len();
-    if whole_records(end) <= i {
+    if !holds(end, i) {
         return Stored::Short;
     }
     let start = 8 + 5 * i;

@@ -1,26 +1,41 @@
 -- `lists::packed::write_record` meets its contract.
 -- Assumes nothing.
+use Prim.Native.Nat.{_+_, _≤_}
+use native.Mathlib.Omega.{arith}
+use lib.ListN.{length}
 use borrow.Author.Needs.{needs}
+use Rattle.logic.proofs.Tests.{not-above, above}
+use Rattle.lists.specs.Lists.{place}
 use Rattle.lists.proofs.Records.{record-beyond, record-part}
 use Rattle.lists.proofs.packed.write_record.Statement.{statement}
 use Rattle.lists.proofs.packed.write_record.Tie as tie
 
+holds-requires : tie.Need-holds-requires
+holds-requires c κs = search needs
+
 returns : tie.Need-returns
 returns c =
-    let a = c .before .before .args in
-    record-beyond (a .f) (a .i) (a .room .now) (c .if1 .taken)
+    let h = c .before .holds in
+    let a = c .before .before .before .args in
+    record-beyond (a .f) (a .i) (a .room .now) (above _ _ _ (h .ensures) (c .if1 .taken))
+
+-- the record has room
+there : (c : tie.Else1) → let a = c .before .before .before .args in place (a .i) + 6 ≤ length (a .room .now)
+there c =
+    let a = c .before .before .before .args in
+    not-above _ _ _ (c .before .holds .ensures) (c .if1 .left)
 
 mul-start : tie.Need-mul-start
-mul-start c = search needs
+mul-start c = omega (arith, there c)
 
 add-start : tie.Need-add-start
-add-start c = search needs
+add-start c = omega (arith, there c)
 
 sub-write : tie.Need-sub-write
-sub-write c = search needs
+sub-write c = omega (arith, there c)
 
 part-write-start : tie.Need-part-write-start
-part-write-start c = search needs
+part-write-start c = omega (arith, there c)
 
 part-write-end : tie.Need-part-write-end
 part-write-end c = search needs
@@ -33,14 +48,15 @@ same-length c = search needs
 
 returns-2 : tie.Need-returns-2
 returns-2 c =
-    let a = c .before .before .before .before .before .before .args in
+    let a = c .before .before .before .before .before .before .before .args in
     let w = c .before .before .write in
-    record-part (a .f) (a .i) (a .room .now) (w .result) (w .last .1 .0) (w .ensures .0) (w .ensures .1)
+    record-part (a .f) (a .i) (a .room .now) (w .result) (w .last .1 .1 .0) (w .ensures .0) (w .ensures .1)
 
 pub write-record-spec : {M : Type 1} → statement M
 write-record-spec =
     tie.close
     (tie.spec
+    holds-requires
     returns
     mul-start
     add-start

@@ -1,30 +1,41 @@
 -- `tables::packed::write_record` meets its contract.
 -- Assumes nothing.
+use Prim.Native.Nat.{_+_, _≤_}
+use native.Mathlib.Omega.{arith}
+use lib.ListN.{length}
 use borrow.Author.Needs.{needs}
+use Rattle.logic.proofs.Tests.{not-above, above}
+use Rattle.tables.specs.Tables.{place}
 use Rattle.tables.proofs.Records.{record-beyond, record-part}
 use Rattle.tables.proofs.packed.write_record.Statement.{statement}
 use Rattle.tables.proofs.packed.write_record.Tie as tie
 
-whole-records-requires : tie.Need-whole-records-requires
-whole-records-requires c κs = search needs
+holds-requires : tie.Need-holds-requires
+holds-requires c κs = search needs
 
 returns : tie.Need-returns
 returns c =
+    let h = c .before .holds in
     let a = c .before .before .before .args in
-    let w = c .before .whole-records in
-    record-beyond (a .g) (a .i) (a .room .now) (w .result) (w .ensures) (c .if1 .taken)
+    record-beyond (a .g) (a .i) (a .room .now) (above _ _ _ (h .ensures) (c .if1 .taken))
+
+-- the record has room
+there : (c : tie.Else1) → let a = c .before .before .before .args in place (a .i) + 5 ≤ length (a .room .now)
+there c =
+    let a = c .before .before .before .args in
+    not-above _ _ _ (c .before .holds .ensures) (c .if1 .left)
 
 mul-start : tie.Need-mul-start
-mul-start c = search needs
+mul-start c = omega (arith, there c)
 
 add-start : tie.Need-add-start
-add-start c = search needs
+add-start c = omega (arith, there c)
 
 sub-write : tie.Need-sub-write
-sub-write c = search needs
+sub-write c = omega (arith, there c)
 
 part-write-start : tie.Need-part-write-start
-part-write-start c = search needs
+part-write-start c = omega (arith, there c)
 
 part-write-end : tie.Need-part-write-end
 part-write-end c = search needs
@@ -45,7 +56,7 @@ pub write-record-spec : {M : Type 1} → statement M
 write-record-spec =
     tie.close
     (tie.spec
-    whole-records-requires
+    holds-requires
     returns
     mul-start
     add-start
