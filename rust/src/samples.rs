@@ -24,6 +24,14 @@ pub fn long_pushes() -> Vec<Flow> {
     with_long_pushes([(3, 4096, 4095); 89])
 }
 
+/// 128 flows over 256 frames with 629 grants. The long ones do not fit a frame, and the frames between them are left with
+/// a few slots that none of them can use.
+pub fn eight_intervals() -> Vec<Flow> {
+    let mut flows: Vec<Flow> = (4..=10).map(|power| (1, 1 << power, 15)).collect();
+    flows.extend((8..=128).map(|number| (17 + number % 13, 4096, 15)));
+    flows
+}
+
 /// 127 flows over 256 frames, as `long_pushes` but with longer ones at the end: 532 grants and 28 free slots of 4,096.
 /// Six free slots in a row are only from 3,994 on.
 pub fn nearly_full() -> Vec<Flow> {

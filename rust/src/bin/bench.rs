@@ -1,4 +1,7 @@
 //! Nanoseconds for each call of the base and of the library, and their ratio.
+//!
+//! `bench rows` prints the names of the rows alone, and `bench ROW base N` or `bench ROW library N` makes N calls more of one of them:
+//! under an instruction counter one call's instructions are what N = 1 takes more than N = 0 (`.ci/instructions`).
 
 use harness::base::{self, Refusal};
 use harness::{library, samples};
@@ -13,13 +16,16 @@ const RUN_TIME: Duration = Duration::from_micros(200);
 const WARM_UP: Duration = Duration::from_millis(20);
 
 fn main() {
-    println!("Median of {RUNS} runs after a warm-up. A room is made once and not cleared between calls, so each call");
-    println!("writes over the same bytes that it wrote before; no time of clearing or allocating is in the numbers.");
-    println!();
-    println!("{:62} {:>10} {:>10} {:>7}", "", "base ns", "library ns", "ratio");
+    if std::env::args().len() == 1 {
+        println!("Median of {RUNS} runs after a warm-up. A room is made once and not cleared between calls, so each call");
+        println!("writes over the same bytes that it wrote before; no time of clearing or allocating is in the numbers.");
+        println!();
+        println!("{:62} {:>10} {:>10} {:>7}", "", "base ns", "library ns", "ratio");
+    }
     for (name, flows) in [
         ("case A, 3 flows, 4 grants", samples::CASE_A.to_vec()),
         ("128 flows over 256 frames, long pushes", samples::long_pushes()),
+        ("128 flows over 256 frames, eight intervals, 629 grants", samples::eight_intervals()),
         ("8 flows, 1,024 grants", samples::most_grants()),
     ] {
         let flows = samples::numbered(&flows);
@@ -153,6 +159,18 @@ fn compare<T: PartialEq + std::fmt::Debug>(
 fn measure<T: PartialEq + std::fmt::Debug>(name: &str, mut ours: impl FnMut() -> T, mut theirs: impl FnMut() -> T) {
     let (our_answer, their_answer) = (ours(), theirs());
     assert!(our_answer == their_answer, "{name}: {our_answer:?} and {their_answer:?}");
+    let asked: Vec<String> = std::env::args().skip(1).collect();
+    match asked.iter().map(String::as_str).collect::<Vec<_>>()[..] {
+        [] => {}
+        ["rows"] => return println!("{name}"),
+        [row, side, calls] => {
+            for _ in 0..calls.parse().ok().filter(|_| row == name).unwrap_or(0) {
+                black_box(if side == "base" { ours() } else { theirs() });
+            }
+            return;
+        }
+        _ => panic!("no argument, `rows`, or a row, a side and a number of calls"),
+    }
     let (our_calls, their_calls) = (calls_in_a_run(&mut ours), calls_in_a_run(&mut theirs));
     // Turn about, so that a disturbance from outside meets both.
     let times: [_; RUNS] =
