@@ -1,41 +1,63 @@
-/* The deepest stack of each function of the C interface: it is called on a stack of its own that is painted beforehand, on lists,
- * tables and settings that reach every part of it, and the lowest byte that it touched is looked for. */
+/* The deepest stack of each function of the C interface. A function is called on a stack of its own that is painted beforehand, and
+ * the lowest byte that it touched is looked for. It is called on lists, tables, sheets and settings that reach every part of it, on the
+ * same with every byte in turn spoilt, and with rooms that are long enough, a byte too short, or not there. A board gives each call
+ * 2 KiB: over that the program fails, and so it does where a refusal was not met that documents 01 and 02 name for a call. */
 #include <stdio.h>
 #include <string.h>
 #include <ucontext.h>
 
 #include "snowploughy.h"
 
-enum { STACK = 1 << 16, PAINT = 0xA7 };
+enum { BOARD = 2048, STACK = 1 << 14, FLOWS = 128 };
 static uint8_t stack[STACK] __attribute__((aligned(64)));
 static ucontext_t here, there;
-static void (*call)(void);
 
-static uint8_t sheet[SNOWPLOUGHY_SHEET_BYTES], list[SNOWPLOUGHY_LIST_BYTES], table[SNOWPLOUGHY_TABLE_BYTES];
-static uint64_t sheet_len, list_len, table_len, first, value;
-static uint8_t room[1 << 15], list_room[SNOWPLOUGHY_LIST_BYTES], table_room[SNOWPLOUGHY_TABLE_BYTES];
-static size_t room_len, list_room_len, table_room_len;
-static uint64_t new_number, new_interval;
-static uint8_t settings[128 * 257];
-static size_t settings_len;
-static uint64_t slot_microseconds, slot_bytes;
-static uint64_t rounding_base;
+/* What the functions are called on. */
+static uint8_t sheet[SNOWPLOUGHY_SHEET_BYTES], list[SNOWPLOUGHY_LIST_BYTES], table[SNOWPLOUGHY_TABLE_BYTES], settings[FLOWS * 257];
+static uint64_t sheet_len, list_len, table_len, settings_len, value, first;
+static uint64_t slot_microseconds, slot_bytes, base, new_number, new_size, new_interval, from, to;
 
-static void nothing(void) {}
-static void pack(void) { snowploughy_list_from_sheet(sheet, sheet_len, room, room_len, &value); }
-static void print(void) { snowploughy_sheet_from_list(list, list_len, room, room_len, &value); }
-static void plan(void) { snowploughy_plan(list, list_len, room, room_len, &value); }
-static void check(void) { snowploughy_check(list, list_len, table, table_len, &value); }
-static void window(void) { snowploughy_window(table, table_len, 0, 4096, &first, &value); }
-static void add(void) {
-    snowploughy_live_add(list, list_len, table, table_len, new_number, 1, new_interval, 0, list_room, list_room_len, table_room, table_room_len, &value);
+/* What they write into: each room has at most the bytes of the longest answer. */
+static uint8_t room[SNOWPLOUGHY_SHEET_BYTES], list_room[SNOWPLOUGHY_LIST_BYTES], table_room[SNOWPLOUGHY_TABLE_BYTES];
+static size_t list_room_len, table_room_len, sheet_room_len;
+
+static uint32_t pack(void) { return snowploughy_list_from_sheet(sheet, sheet_len, room, list_room_len, &value); }
+static uint32_t print(void) { return snowploughy_sheet_from_list(list, list_len, room, sheet_room_len, &value); }
+static uint32_t plan(void) { return snowploughy_plan(list, list_len, room, table_room_len, &value); }
+static uint32_t check(void) { return snowploughy_check(list, list_len, table, table_len, &value); }
+static uint32_t window(void) { return snowploughy_window(table, table_len, from, to, &first, &value); }
+static uint32_t add(void) {
+    return snowploughy_live_add(list, list_len, table, table_len, new_number, new_size, new_interval, 0, list_room, list_room_len, table_room, table_room_len, &value);
 }
-static void ask(void) { snowploughy_list_from_settings(settings, settings_len, slot_microseconds, slot_bytes, room, room_len, &value); }
-static void fit(void) { snowploughy_round_list(list, list_len, rounding_base, room, room_len, &value); }
-static void run(void) { call(); }
+static uint32_t ask(void) { return snowploughy_list_from_settings(settings, settings_len, slot_microseconds, slot_bytes, room, list_room_len, &value); }
+static uint32_t fit(void) { return snowploughy_round_list(list, list_len, base, room, list_room_len, &value); }
 
-static size_t depth(void (*f)(void)) {
-    memset(stack, PAINT, STACK);
+/* A bit for each refusal by a number from a to b. */
+#define TESTS(a, b) ((2ull << (b)) - (1ull << (a)))
+enum { PACK, PRINT, PLAN, CHECK, WINDOW, ADD, ASK, FIT, CALLS };
+static struct {
+    const char *name;
+    uint32_t (*f)(void);
+    uint64_t tests, answers; /* the refusals that it has, and those that were met */
+    size_t most;
+} calls[CALLS] = {{"list_from_sheet", pack, TESTS(20, 20) | TESTS(3, 4) | TESTS(9, 9), 0, 0},
+                  {"sheet_from_list", print, TESTS(1, 4) | TESTS(9, 9), 0, 0},
+                  {"plan", plan, TESTS(1, 10), 0, 0},
+                  {"check", check, TESTS(1, 7) | TESTS(11, 18), 0, 0},
+                  {"window", window, TESTS(11, 12) | TESTS(19, 19), 0, 0},
+                  {"live_add", add, TESTS(1, 7) | TESTS(9, 9) | TESTS(11, 18) | TESTS(21, 22), 0, 0},
+                  /* 5 finds no fault: the flows have the numbers of their records */
+                  {"list_from_settings", ask, TESTS(3, 4) | TESTS(6, 6) | TESTS(9, 9) | TESTS(23, 26), 0, 0},
+                  {"round_list", fit, TESTS(1, 5) | TESTS(9, 9) | TESTS(27, 28), 0, 0}};
+
+static uint32_t nothing(void) { return 0; }
+static uint32_t (*call)(void);
+static uint32_t answer;
+static void run(void) { answer = call(); }
+
+/* How deep a call reaches into a stack that is filled with this byte. */
+static size_t depth(uint32_t (*f)(void), uint8_t paint) {
+    memset(stack, paint, STACK);
     getcontext(&there);
     there.uc_stack.ss_sp = stack;
     there.uc_stack.ss_size = STACK;
@@ -44,32 +66,125 @@ static size_t depth(void (*f)(void)) {
     makecontext(&there, run, 0);
     swapcontext(&here, &there);
     size_t low = 0;
-    while (low < STACK && stack[low] == PAINT) low++;
+    while (low < STACK && stack[low] == paint) low++;
     return STACK - low;
 }
 
-/* A list of n flows of one size and jitter, the first few with the interval `frame` and the rest with `cycle`. */
-static void make(unsigned n, unsigned few, unsigned size, unsigned frame, unsigned cycle, unsigned jitter) {
-    char text[64];
-    sheet_len = 0;
-    for (unsigned i = 0; i < n; i++) {
-        unsigned interval = i < few ? frame : cycle;
-        int k = snprintf(text, sizeof text, "flow %u size %u every %u jitter %u\n", i + 1, i < few ? 1 : size, interval, i < few ? jitter : 0);
-        memcpy(sheet + sheet_len, text, k);
-        sheet_len += k;
+/* Measures one call on what stands ready; what it leaves of the paint by chance another paint shows. */
+static void measure(int c) {
+    static const uint8_t paints[] = {0xA7, 0x00};
+    for (int p = 0; p < 2; p++) {
+        size_t d = depth(calls[c].f, paints[p]);
+        calls[c].answers |= 1ull << answer;
+        d -= depth(nothing, paints[p]);
+        if (d > calls[c].most) calls[c].most = d;
     }
-    snowploughy_list_from_sheet(sheet, sheet_len, list, sizeof list, &list_len);
-    if (snowploughy_plan(list, list_len, table, sizeof table, &table_len)) table_len = 0;
 }
 
-/* A flow to add to the list, and the rooms for it: just long enough, or none where the other calls have none. */
-static void join(unsigned number, unsigned interval, unsigned cycle) {
-    new_number = number;
-    new_interval = interval;
-    list_room_len = room_len ? list_len + 6 : 0;
-    table_room_len = room_len && interval ? table_len + 5 * (cycle / interval) : 0;
-    if (list_room_len > sizeof list_room) list_room_len = sizeof list_room;
-    if (table_room_len > sizeof table_room) table_room_len = sizeof table_room;
+/* With rooms that are just long enough for what the call writes, a byte too short, and not there. */
+static void measure_rooms(int c) {
+    size_t whole[] = {sizeof list_room, sizeof table_room, sizeof room};
+    for (int shape = 0; shape < 3; shape++) {
+        size_t *rooms[] = {&list_room_len, &table_room_len, &sheet_room_len};
+        for (int r = 0; r < 3; r++) *rooms[r] = shape == 0 ? whole[r] : 0;
+        if (shape == 1) {
+            for (int r = 0; r < 3; r++) *rooms[r] = whole[r];
+            if (calls[c].f() != 0) continue;
+            list_room_len = c == ADD ? list_len + 5 : value ? value - 1 : 0;
+            table_room_len = sheet_room_len = value ? value - 1 : 0;
+        }
+        measure(c);
+    }
+    list_room_len = whole[0];
+    table_room_len = whole[1];
+    sheet_room_len = whole[2];
+}
+
+/* With one byte after the other changed: all bits, and the lowest and the highest alone; of a long run every so many bytes. */
+static void measure_spoilt(int c, uint8_t *bytes, size_t n) {
+    static const uint8_t changes[] = {0xFF, 0x01, 0x80};
+    for (size_t i = 0; i < n; i += 1 + n / 300)
+        for (size_t k = 0; k < sizeof changes; k++) {
+            bytes[i] ^= changes[k];
+            measure(c);
+            bytes[i] ^= changes[k];
+        }
+}
+
+/* One byte less, and none. */
+static void measure_cut(int c, uint64_t *n) {
+    uint64_t whole = *n;
+    if (whole) *n = whole - 1;
+    measure(c);
+    *n = 0;
+    measure(c);
+    *n = whole;
+}
+
+/* So many flows of one size, interval and jitter. */
+typedef struct { unsigned flows, size, interval, jitter; } Group;
+
+/* The sheet, list and table of some groups of flows, numbered from 1; no table where the list is not planned. */
+static void make(const Group *groups, size_t n) {
+    unsigned number = 0;
+    sheet_len = 0;
+    for (size_t g = 0; g < n; g++)
+        for (unsigned i = 0; i < groups[g].flows; i++)
+            sheet_len += sprintf((char *)sheet + sheet_len, "flow %u size %u every %u jitter %u\n", ++number, groups[g].size, groups[g].interval, groups[g].jitter);
+    if (snowploughy_list_from_sheet(sheet, sheet_len, list, sizeof list, &list_len)) list_len = 0;
+    if (snowploughy_plan(list, list_len, table, sizeof table, &table_len)) table_len = 0;
+    new_number = 1000;
+    base = n ? groups[0].interval : 1;
+    from = 1;
+    to = 4;
+}
+
+/* Every call that takes a sheet, a list or a table, with new flows of two sizes and of the first and the last interval. */
+static void measure_lists(const Group *groups, size_t n) {
+    make(groups, n);
+    for (int c = PACK; c < CALLS; c++)
+        if (c != ASK && c != ADD) measure_rooms(c);
+    measure_spoilt(PACK, sheet, sheet_len);
+    measure_cut(PACK, &sheet_len);
+    int listed[] = {PRINT, PLAN, CHECK, ADD, FIT}, tabled[] = {CHECK, WINDOW, ADD};
+    for (unsigned kind = 0; kind < 4 && n; kind++) {
+        new_interval = groups[kind % 2 ? n - 1 : 0].interval;
+        new_size = kind < 2 ? 1 : new_interval;
+        measure_rooms(ADD);
+    }
+    new_size = 1;
+    for (size_t k = 0; k < sizeof listed / sizeof *listed; k++) {
+        measure_spoilt(listed[k], list, list_len);
+        measure_cut(listed[k], &list_len);
+    }
+    for (size_t k = 0; k < sizeof tabled / sizeof *tabled; k++) {
+        measure_spoilt(tabled[k], table, table_len);
+        measure_cut(tabled[k], &table_len);
+    }
+    /* new flows that are refused, and bases that are */
+    uint64_t numbers[] = {0, 1, 1024, UINT64_MAX}, bases[] = {0, 1, 20, 4096, 4097, UINT64_MAX};
+    for (size_t k = 0; k < 4; k++) {
+        new_number = numbers[k];
+        measure(ADD);
+    }
+    new_number = 1000;
+    for (new_interval = 1; new_interval < 10000; new_interval = 3 * new_interval + 1) measure(ADD);
+    for (size_t k = 0; k < 6; k++) {
+        base = to = bases[k];
+        measure(FIT);
+        measure(WINDOW);
+    }
+}
+
+/* A grant that is late as its flow allows, and so ends after the cycle. */
+static void measure_past_cycle(void) {
+    static const Group one[] = {{1, 2, 4, 3}};
+    make(one, 1);
+    new_size = new_interval = 1;
+    uint64_t grant = 1ull << 30 | 3ull << 18 | 3ull << 6; /* flow 1 at slot 3, late by 3 */
+    for (int b = 0; b < 5; b++) table[8 + b] = grant >> 8 * (4 - b);
+    measure(CHECK);
+    measure(ADD);
 }
 
 /* A setting of one type and of four bytes at most. */
@@ -79,107 +194,61 @@ static void put(uint8_t type, unsigned bytes, uint32_t number) {
     while (bytes-- > 0) settings[settings_len++] = number >> 8 * bytes;
 }
 
-/* A run of n encodings that asks for the flows of `make`, each in as many grants and behind as many other settings. */
-static void request(unsigned n, unsigned few, unsigned size, unsigned frame, unsigned cycle, unsigned jitter, unsigned grants, unsigned others) {
+/* Modem settings: so many encodings of one flow, each in as many grants and behind as many other settings; on channels of all kinds. */
+static void measure_settings(unsigned n, Group flow, unsigned grants, unsigned others) {
     settings_len = 0;
     for (unsigned i = 0; i < n; i++) {
         put(24, 0, 0);
         size_t front = settings_len;
         for (unsigned other = 0; other < others; other++) put(15, 3, other);
-        put(19, 2, i < few ? 1 : size);
-        put(20, 4, i < few ? frame : cycle);
-        put(21, 4, i < few ? jitter : 0);
+        put(19, 2, flow.size);
+        put(20, 4, flow.interval);
+        put(21, 4, flow.jitter);
         put(22, 1, grants);
         settings[front - 1] = settings_len - front;
     }
-}
-
-/* The deepest stack of modem settings: as they are, and refused by each test that a change of them or of the channel can bring about. */
-static size_t deepest_request(void) {
-    struct { size_t cut; uint64_t microseconds, bytes; uint8_t grants_type; } changes[] = {
-        {0, 1, 1, 22}, {0, 1, UINT64_MAX, 22}, {1, 1, 1, 22}, {0, 1, 1, 24}, {0, 7, 1, 22}, {0, UINT64_MAX, 1, 22}, {0, 0, 1, 22}, {0, 1, 0, 22}};
-    size_t most = 0, whole = settings_len;
-    for (size_t c = 0; c < sizeof changes / sizeof *changes; c++) {
-        settings_len = whole > changes[c].cut ? whole - changes[c].cut : 0;
-        slot_microseconds = changes[c].microseconds;
-        slot_bytes = changes[c].bytes;
-        /* the last setting of the last encoding is its grants per interval; under another type it is missing */
-        if (whole) settings[whole - 3] = changes[c].grants_type;
-        size_t d = depth(ask);
-        if (d > most) most = d;
+    uint64_t channels[][2] = {{1, 1}, {1, UINT64_MAX}, {7, 1}, {UINT64_MAX, 1}, {0, 1}, {1, 0}};
+    for (size_t k = 0; k < sizeof channels / sizeof *channels; k++) {
+        slot_microseconds = channels[k][0];
+        slot_bytes = channels[k][1];
+        measure_rooms(ASK);
     }
-    return most;
-}
-
-/* The deepest stack of rounding a list of n flows: to bases up to its shortest interval, and refused by each test that a change of the
- * list or of the base can bring about. */
-static size_t deepest_rounding(unsigned n, unsigned frame) {
-    struct { size_t cut; uint64_t base; unsigned last; uint8_t front; } changes[] = {
-        {0, frame, n, 0x11}, {0, 1, n, 0x11}, {0, frame - 1, n, 0x11}, {1, frame, n, 0x11}, {0, frame, n, 0x12}, {0, frame, 1, 0x11},
-        {0, 0, n, 0x11}, {0, 4097, n, 0x11}, {0, UINT64_MAX, n, 0x11}, {0, frame + 1, n, 0x11}, {0, 4096, n, 0x11}};
-    size_t most = 0, whole = list_len;
-    for (size_t c = 0; c < sizeof changes / sizeof *changes; c++) {
-        list_len = whole > changes[c].cut ? whole - changes[c].cut : 0;
-        rounding_base = changes[c].base;
-        list[0] = changes[c].front;
-        /* the number of the last record, 10 bits; 1 is that of the first */
-        if (whole) {
-            list[whole - 6] = changes[c].last >> 2;
-            list[whole - 5] = (list[whole - 5] & 63) | changes[c].last << 6;
-        }
-        size_t d = depth(fit);
-        if (d > most) most = d;
-    }
-    return most;
+    slot_microseconds = slot_bytes = 1;
+    measure_spoilt(ASK, settings, settings_len);
+    measure_cut(ASK, &settings_len);
 }
 
 int main(void) {
-    struct { const char *name; void (*f)(void); size_t most; } calls[] = {
-        {"list_from_sheet", pack, 0}, {"sheet_from_list", print, 0}, {"plan", plan, 0}, {"check", check, 0}, {"window", window, 0}, {"live_add", add, 0}};
-    size_t count = sizeof calls / sizeof *calls;
-    /* the second half for live add: case C, 127 flows over 256 frames, 1,023 grants, and a table with no free slot */
-    unsigned lists[][6] = {{3, 1, 2, 4, 8, 2}, {128, 2, 28, 16, 4096, 15}, {8, 4, 1, 16, 4080, 0}, {128, 0, 1, 4, 4096, 0}, {2, 1, 9, 4, 8, 0}, {0, 0, 0, 0, 0, 0},
-                           {2, 1, 4, 4, 8, 1}, {127, 2, 28, 16, 4096, 15}, {7, 4, 1, 16, 4080, 0}, {4, 4, 1, 4, 4, 0}};
-    size_t base = depth(nothing);
-    for (size_t l = 0; l < sizeof lists / sizeof *lists; l++) {
-        make(lists[l][0], lists[l][1], lists[l][2], lists[l][3], lists[l][4], lists[l][5]);
-        for (room_len = 0; room_len <= sizeof room; room_len += sizeof room)
-            for (unsigned often = 0; often < 2; often++) {
-                join(lists[l][0] + 1, often ? lists[l][3] : lists[l][4], lists[l][4]);
-                for (size_t c = 0; c < count; c++) {
-                    size_t d = depth(calls[c].f) - base;
-                    if (d > calls[c].most) calls[c].most = d;
-                }
-            }
+    static const Group case_a[] = {{1, 1, 4, 2}, {1, 2, 8, 0}, {1, 3, 8, 0}}, case_c[] = {{1, 1, 4, 1}, {1, 4, 8, 0}};
+    /* 128 flows over 256 frames: long pushes, every second frame full and every search from the front, and eight intervals */
+    static const Group pushes[] = {{1, 1, 16, 15}, {8, 24, 256, 40}, {30, 5, 2048, 90}, {89, 3, 4096, 4095}};
+    static const Group nearly_full[] = {{1, 1, 16, 15}, {8, 24, 256, 40}, {30, 5, 2048, 90}, {88, 5, 4096, 4095}};
+    static const Group wide[] = {{2, 1, 16, 15}, {126, 28, 4096, 0}};
+    static const Group eight[] = {{1, 1, 16, 15}, {1, 1, 32, 15}, {1, 1, 64, 15}, {1, 1, 128, 15}, {1, 1, 256, 15}, {1, 1, 512, 15}, {1, 1, 1024, 15}, {121, 23, 4096, 15}};
+    static const Group falling[] = {{100, 9, 4096, 15}, {10, 20, 2048, 15}, {8, 1, 256, 15}, {1, 1, 16, 15}};
+    /* 1,024 grants and 1,023, a table with no free slot, an oversold list, one with no lawful frame, one over 256 frames */
+    static const Group most[] = {{4, 1, 16, 0}, {4, 1, 4080, 0}}, one_less[] = {{4, 1, 16, 0}, {3, 1, 4080, 0}};
+    static const Group full[] = {{4, 1, 4, 0}}, oversold[] = {{1, 1, 4, 0}, {1, 9, 8, 0}}, no_frame[] = {{1, 1, 4, 0}, {1, 4, 8, 0}}, long_cycle[] = {{1, 1, 4, 0}, {127, 1, 4096, 0}};
+    /* intervals that do not divide one another */
+    static const Group unrelated[] = {{1, 4, 20, 5}, {1, 6, 30, 25}, {1, 5, 50, 45}}, many_unrelated[] = {{64, 1, 16, 15}, {64, 28, 4095, 0}};
+#define LISTS(g) measure_lists(g, sizeof g / sizeof *g)
+    LISTS(case_a), LISTS(case_c), LISTS(pushes), LISTS(nearly_full), LISTS(wide), LISTS(eight), LISTS(falling), LISTS(most), LISTS(one_less), LISTS(full);
+    LISTS(oversold), LISTS(no_frame), LISTS(long_cycle), LISTS(unrelated), LISTS(many_unrelated);
+    measure_lists(0, 0);
+    measure_past_cycle();
+    measure_settings(3, (Group){1, 1, 8, 2}, 1, 0);
+    measure_settings(128, (Group){1, 28, 4096, 15}, 1, 0);
+    measure_settings(128, (Group){1, 28, 4096, 15}, 1, 47);
+    measure_settings(1, (Group){1, 28, 4096, 0}, 128, 0);
+    measure_settings(128, (Group){1, 28, 4096, 15}, 255, 0);
+    measure_settings(0, (Group){0, 0, 0, 0}, 0, 0);
+
+    int failed = 0;
+    for (int c = 0; c < CALLS; c++) {
+        printf("stack of snowploughy_%s: %zu bytes\n", calls[c].name, calls[c].most);
+        for (int a = 1; a < 64; a++)
+            if ((calls[c].tests ^ calls[c].answers) >> a & 1) failed = printf("  refusal %d was %smet\n", a, calls[c].answers >> a & 1 ? "" : "not ");
+        if (calls[c].most > BOARD) failed = printf("  which is more than %d\n", BOARD);
     }
-    /* the same flows from settings: 128 of one grant each, one of 128, 128 of too many, with as many other settings as an encoding holds,
-     * and intervals that are not related */
-    unsigned requests[][8] = {{3, 1, 2, 4, 8, 2, 1, 0}, {128, 2, 28, 16, 4096, 15, 1, 0}, {128, 2, 28, 16, 4096, 15, 1, 47}, {1, 0, 28, 16, 4096, 0, 128, 0},
-                              {128, 2, 28, 16, 4096, 15, 255, 0}, {2, 1, 9, 4, 8, 0, 1, 0}, {2, 1, 1, 4, 6, 0, 1, 0}, {0, 0, 0, 0, 0, 0, 0, 0}};
-    size_t deepest = 0;
-    for (size_t r = 0; r < sizeof requests / sizeof *requests; r++) {
-        unsigned *q = requests[r];
-        for (room_len = 0; room_len <= sizeof room; room_len += sizeof room) {
-            request(q[0], q[1], q[2], q[3], q[4], q[5], q[6], q[7]);
-            size_t d = deepest_request() - base;
-            if (d > deepest) deepest = d;
-        }
-    }
-    /* rounding: intervals that are not related, 128 flows with the most powers of two, unrelated and with the longest intervals, a last
-     * size that the new interval does not hold, and no list */
-    unsigned unrounded[][6] = {{3, 1, 6, 20, 30, 5}, {128, 2, 1, 1, 4096, 0}, {128, 64, 28, 16, 4095, 15}, {128, 0, 4095, 4096, 4096, 0},
-                               {128, 127, 39, 20, 39, 5}, {0, 0, 0, 1, 1, 0}};
-    size_t deepest_round = 0;
-    for (size_t l = 0; l < sizeof unrounded / sizeof *unrounded; l++) {
-        unsigned *u = unrounded[l];
-        for (room_len = 0; room_len <= sizeof room; room_len += sizeof room) {
-            make(u[0], u[1], u[2], u[3], u[4], u[5]);
-            size_t d = deepest_rounding(u[0], u[3]) - base;
-            if (d > deepest_round) deepest_round = d;
-        }
-    }
-    for (size_t c = 0; c < count; c++) printf("stack of snowploughy_%s: %zu bytes\n", calls[c].name, calls[c].most);
-    printf("stack of snowploughy_list_from_settings: %zu bytes\n", deepest);
-    printf("stack of snowploughy_round_list: %zu bytes\n", deepest_round);
-    return 0;
+    return failed != 0;
 }

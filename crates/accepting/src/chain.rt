@@ -11,6 +11,7 @@ use flows::times;
 use lists::count;
 use lists::few;
 use lists::flow_at;
+use pairing::BITS;
 use pairing::number_test;
 use pairing::pair_tests;
 use refusals::Checked;
@@ -90,26 +91,26 @@ pub fn tests_1_to_4(list: &[u8]) -> Checked
     field_test(list)
 }
 
-// Tests 1 to 5 of a list.
-pub fn tests_1_to_5(list: &[u8]) -> Checked
+// Tests 1 to 5 of a list. The lent bytes may hold anything before and after.
+pub fn tests_1_to_5(list: &[u8], bits: &mut [u8; BITS]) -> Checked
     ensures { λ r. ⌜ r ≡ tests1to5 (now (list .entry)) ⌝ }
 {
     let first = tests_1_to_4(list);
     if let Checked::Refused(r) = first {
         return Checked::Refused(r);
     }
-    number_test(list)
+    number_test(list, bits)
 }
 
-// Tests 1 to 7 of a list.
-pub fn tests_1_to_7(list: &[u8]) -> Checked
+// Tests 1 to 7 of a list. The lent bytes may hold anything before and after.
+pub fn tests_1_to_7(list: &[u8], bits: &mut [u8; BITS]) -> Checked
     ensures { λ r. ⌜ r ≡ tests1to7 (now (list .entry)) ⌝ }
 {
     let first = tests_1_to_4(list);
     if let Checked::Refused(r) = first {
         return Checked::Refused(r);
     }
-    let pairs = pair_tests(list);
+    let pairs = pair_tests(list, bits);
     if let Checked::Refused(r) = pairs {
         return Checked::Refused(r);
     }

@@ -43,7 +43,7 @@ use Rattle.adding.proofs.Tabling.{table-same}
 
 module _ (l t : List ℕ) (f : Flow) (ok : check l t ≡ Passed) where
   -- the list passes tests 1 to 7, and 1 to 4
-  pub list-passes : tests1to7 l ≡ Passed
+  list-passes : tests1to7 l ≡ Passed
   list-passes = check-parts l t .0 ok .list
 
   pub list-passes-4 : tests1to4 l ≡ Passed

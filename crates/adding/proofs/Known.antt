@@ -1,5 +1,6 @@
 -- What is known of a list, a table and a new flow that pass their tests. Assumes nothing.
 use mathlib.Core.Path.{_≡_}
+use mathlib.Core.Bool.{true}
 use mathlib.Core.List.{List, [], _∷_, _++_}
 use Prim.Native.Nat.{ℕ, _*_, _≤_, _<_}
 use Rattle.logic.specs.Lists.{All}
@@ -13,11 +14,14 @@ use Rattle.lists.specs.Accepted.{Accepted}
 use Rattle.lists.proofs.Accepted.{accepted}
 use Rattle.lists.proofs.Cycle.{kept, occupies-pos, cycle-fits}
 use Rattle.tables.specs.Tables.{cycleOf, frameOf, grantsOf as grantsIn}
-use Rattle.law.specs.Check.{slots}
+use Rattle.tables.proofs.Forms.{Formed, form-passed}
+use Rattle.tables.proofs.Meaning.{Fits}
+use Rattle.law.specs.Check.{known as listed, slots}
 use Rattle.law.specs.Law.{Rising}
 use Rattle.law.proofs.Listed.{slots-pos}
-use Rattle.law.proofs.Chains.{Chain, inside-chain, chain-rising, chain-before}
-use Rattle.law.proofs.Demand.{check-is-lawful}
+use Rattle.law.proofs.Chains.{Chain, inside-chain, chain-rising}
+use Rattle.law.proofs.Demand.{check-parts, check-is-lawful}
+use Rattle.law.proofs.Packed.{held}
 use Rattle.offsets.proofs.Fitting.{fills}
 use Rattle.offsets.proofs.Standing.{stands}
 use Rattle.adding.specs.Parts.{Joins}
@@ -31,9 +35,11 @@ pub record Known (l t : List ℕ) (f : Flow) : Type 0 where
   pub cycle-le : cycle (flowsOf l) ≤ 4096
   pub fills : grantsOf (cycle (flowsOf l)) f * f .interval ≡ cycle (flowsOf l)
   pub chain : Chain (flowsOf l) 0 (cycle (flowsOf l)) (grantsIn t)
+  pub listed : All (λ g. listed (flowsOf l) (g .flow) ≡ true) (grantsIn t)
   pub sized : All (λ g. 0 < slots (flowsOf l) g) (grantsIn t)
   pub rising : Rising (grantsIn t)
-  pub early : All (λ g. g .start < cycle (flowsOf l)) (grantsIn t)
+  pub form : Formed t
+  pub fit : All Fits (grantsIn t)
 
 pub known : (l t : List ℕ) (f : Flow) → Joins l t f → Known l t f
 known l t f j =
@@ -53,7 +59,9 @@ known l t f j =
       cycle-le = cycle-fits fs ok;
       fills = fills fs f gs N;
       chain = chain;
+      listed = N .reads .listed;
       sized = sized;
       rising = chain-rising fs 0 (cycle fs) gs sized chain;
-      early = chain-before fs 0 (cycle fs) gs sized chain;
+      form = form-passed t (w .form) .0;
+      fit = held fs ok gs (check-parts l t .0 (j .checked) .rules) .fits;
     }

@@ -1,16 +1,20 @@
--- Old and new grants written one after another, in the order of their starts. Assumes nothing.
-use mathlib.Core.Path.{_≡_, sym, ap, _∙_}
-use mathlib.Core.List.{List, [], _∷_}
-use Prim.Native.Nat.{ℕ, zero, suc, _+_, _-_, _*_, _≤_, _<_}
+-- Old and new grants written one after another, in the order of their starts: the old ones run by run, as bytes. Assumes nothing.
+use mathlib.Core.Path.{_≡_, refl, sym, ap, subst, _∙_}
+use mathlib.Core.Bool.{true}
+use mathlib.Core.List.{List, [], _∷_, _++_}
+use Prim.Native.Nat.{ℕ, zero, suc, _+_, _-_, _*_, _≤_, _<_, min}
 use native.Mathlib.Omega.{arith}
-use lib.ListN.{length, getD, drop, drop-of-length-le}
-use lib.Seq.{drop-cons}
+use lib.ListN.{length, getD, take, drop, length-take, length-drop, take-append-drop}
+use lib.Seq.{sets, length-take-le, take-all, getD-take, getD-drop, drop-drop}
 use Rattle.logic.specs.Lists.{All}
-use Rattle.logic.proofs.Tests.{by-lt}
-use Rattle.logic.proofs.Members.{all-getD, all-imp}
+use Rattle.logic.proofs.Members.{all-getD, getD-all, all-imp}
 use Rattle.flows.specs.declared.flow.Flow.{Flow}
 use Rattle.tables.specs.declared.packed.Grant.{Grant}
-use Rattle.tables.specs.Tables.{recordAfter, recordsAfter}
+use Rattle.tables.specs.Tables.{count, place, grantsOf as grantsIn, recordAfter, recordsAfter}
+use Rattle.tables.specs.Form.{formed}
+use Rattle.tables.proofs.Records.{length-grants}
+use Rattle.tables.proofs.Meaning.{Fits, records-part}
+use Rattle.tables.proofs.Writing.{records-append, records-written}
 use Rattle.law.specs.Law.{blank, Rising}
 use Rattle.offsets.specs.Offsets.{grantsFrom, joined}
 use Rattle.offsets.proofs.Joining.{joined-old, joined-new, from-after}
@@ -24,6 +28,21 @@ rising-from x (g ∷ q ∷ gs) zero r h = (h (omega arith), rising-from x (q ∷
 rising-from x (g ∷ []) (suc i) r h = rising-from x [] i tt (λ j. absurd (omega arith))
 rising-from x (g ∷ q ∷ gs) (suc i) r h = rising-from x (q ∷ gs) i (r .1) (λ j. h (omega arith))
 
+-- n grants from grant i on, each of which has a property
+all-part : (P : Grant → Type 0) (i n : ℕ) (gs : List Grant) → ((p : ℕ) → i ≤ p → p < i + n → p < length gs → P (getD gs p blank)) → All P (take n (drop i gs))
+all-part P i n gs h =
+    getD-all P blank (take n (drop i gs))
+    (λ p l.
+    let m : p < min n (length gs - i) = omega (arith, length-take n (drop i gs), length-drop i gs) in
+    subst P (sym (getD-take n (drop i gs) p blank (omega arith) ∙ getD-drop i gs p blank)) (h (i + p) (omega arith) (omega arith) (omega arith)))
+
+-- old grants that start before x come before the new ones, which do not
+joined-olds : (x : ℕ) (ns hs gs : List Grant) → All (λ n. x ≤ n .start) ns → All (λ g. g .start < x) hs → joined ns (hs ++ gs) ≡ hs ++ joined ns gs
+joined-olds x ns [] gs a b = refl
+joined-olds x ns (h ∷ hs) gs a b =
+    joined-old ns h (hs ++ gs) (all-imp (λ n. x ≤ n .start) (λ n. h .start < n .start) ns (λ n l. omega (arith, b .0)) a)
+    ∙ ap (λ (rs : List Grant). h ∷ rs) (joined-olds x ns hs gs a (b .1))
+
 -- of the old grants gs and m new ones of f from slot o on, i and k are written, and x is where the next new one starts
 pub record Merging (gs : List Grant) (f : Flow) (o m : ℕ) (room₀ : List ℕ) (i k x : ℕ) (room : List ℕ) : Type 0 where
   pub old : i ≤ length gs
@@ -36,22 +55,28 @@ module _ (gs : List Grant) (f : Flow) (o m : ℕ) (room₀ : List ℕ) where
   merge-start = let z : m - 0 ≡ m = omega arith in record { old = omega arith; new = omega arith; next = omega arith; rest = rw z }
 
   module _ (i k x : ℕ) (room : List ℕ) (M : Merging gs f o m room₀ i k x room) where
-    -- the next old grant is written
-    pub merge-old : (g : Grant) (next : List ℕ) → i < length gs → g ≡ getD gs i blank → g .start < x → next ≡ recordAfter g (i + k) room
-        → Merging gs f o m room₀ (i + 1) k x next
-    unfolding recordsAfter
-    merge-old g next h e l r =
-        let s : i + 1 ≡ suc i = omega arith in
-        let s' : i + 1 + k ≡ suc (i + k) = omega arith in
+    -- the old grants up to grant j, which start before x, are written
+    pub merge-old : (j : ℕ) (next : List ℕ) → i ≤ j → j ≤ length gs → ((p : ℕ) → i ≤ p → p < j → getD gs p blank .start < x)
+        → next ≡ recordsAfter (i + k) (take (j - i) (drop i gs)) room → Merging gs f o m room₀ j k x next
+    merge-old j next l h early r =
         let ns = grantsFrom f x (m - k) in
-        let opens : drop i gs ≡ g ∷ drop (suc i) gs = drop-cons gs i blank h ∙ ap (λ (q : Grant). q ∷ drop (suc i) gs) (sym e) in
-        let first : joined ns (drop i gs) ≡ g ∷ joined ns (drop (suc i) gs) =
-        ap (joined ns) opens ∙ joined-old ns g (drop (suc i) gs) (all-imp (λ n. x ≤ n .start) (λ n. g .start < n .start) ns (λ n a. omega arith) (from-after f x (m - k))) in
+        let hs = take (j - i) (drop i gs) in
+        let far : i + (j - i) ≡ j = omega arith in
+        let many : i + k + length hs ≡ j + k = omega (arith, length-take-le (j - i) (drop i gs) (omega (arith, length-drop i gs))) in
+        let parts : drop i gs ≡ hs ++ drop j gs =
+        sym (take-append-drop (j - i) (drop i gs)) ∙ ap (λ (rs : List Grant). hs ++ rs) (drop-drop (j - i) i gs ∙ ap (λ (n : ℕ). drop n gs) far) in
+        let first : joined ns (drop i gs) ≡ hs ++ joined ns (drop j gs) =
+        ap (joined ns) parts ∙ joined-olds x ns hs (drop j gs) (from-after f x (m - k)) (all-part (λ g. g .start < x) i (j - i) gs (λ p a b _. early p a (omega arith))) in
         record {
-          old = omega arith;
+          old = h;
           new = M .new;
           next = M .next;
-          rest = rw (s', s, r) (ap (λ (rs : List Grant). recordsAfter (i + k) rs room) (sym first) ∙ M .rest);
+          rest =
+              ap (recordsAfter (j + k) (joined ns (drop j gs))) r
+              ∙ ap (λ (n : ℕ). recordsAfter n (joined ns (drop j gs)) (recordsAfter (i + k) hs room)) (sym many)
+              ∙ sym (records-append (i + k) hs (joined ns (drop j gs)) room)
+              ∙ ap (λ (rs : List Grant). recordsAfter (i + k) rs room) (sym first)
+              ∙ M .rest;
         }
 
     -- the next new grant is written: no old one left starts before it
@@ -71,20 +96,24 @@ module _ (gs : List Grant) (f : Flow) (o m : ℕ) (room₀ : List ℕ) where
           rest = rw (s, r) (ap (λ (rs : List Grant). recordsAfter (i + k) rs room) (sym first) ∙ M .rest);
         }
 
-    -- a new grant is left where the new ones reach the cycle c, in which every old one starts, and no old one comes first
-    pub new-left : (c : ℕ) → All (λ g. g .start < c) gs → c ≤ o + m * f .interval → (i < length gs → x ≤ getD gs i blank .start) → i + k < length gs + m → k < m
-    new-left c early full h l =
-        by-lt k m (λ j. j)
-        (λ j.
-        let e : k ≡ m = omega (arith, M .new) in
-        let i-lt : i < length gs = omega arith in
-        let x-is : x ≡ o + m * f .interval = M .next ∙ ap (λ (n : ℕ). o + n * f .interval) e in
-        absurd (omega (arith, all-getD (λ g. g .start < c) blank gs early i i-lt, h i-lt)))
+    -- no new grant is left: the old ones left are written, and so all are
+    pub merge-end : (n : ℕ) (out : List ℕ) → n ≡ length gs → m ≤ k → out ≡ recordsAfter (i + k) (take (n - i) (drop i gs)) room
+        → out ≡ recordsAfter 0 (joined (grantsFrom f o m) gs) room₀
+    unfolding grantsFrom joined
+    merge-end n out e h r =
+        let z : m - k ≡ 0 = omega arith in
+        let all : take (n - i) (drop i gs) ≡ drop i gs = take-all (n - i) (drop i gs) (omega (arith, length-drop i gs)) in
+        r ∙ ap (λ (rs : List Grant). recordsAfter (i + k) rs room) all ∙ rw z at (M .rest)
 
-    -- all are written
-    pub merge-end : length gs + m ≤ i + k → room ≡ recordsAfter 0 (joined (grantsFrom f o m) gs) room₀
-    unfolding recordsAfter grantsFrom joined
-    merge-end h =
-        let z : m - k ≡ 0 = omega (arith, M .old, M .new) in
-        let all : length gs ≤ i = omega (arith, M .old, M .new) in
-        rw (z, drop-of-length-le gs all) at (M .rest)
+-- ---- old records copied as bytes
+
+module _ (t : List ℕ) (bytes : (i : ℕ) → getD t i 0 < 256) (whole : formed t ≡ true) (fit : All Fits (grantsIn t)) where
+  -- records of the table copied k records further on are its grants written there
+  pub records-copied : (i j k : ℕ) (room next : List ℕ) → i ≤ j → j ≤ count t → place (j + k) ≤ length room
+      → next ≡ sets room (place (i + k)) (take (place j - place i) (drop (place i) t)) → next ≡ recordsAfter (i + k) (take (j - i) (drop i (grantsIn t))) room
+  records-copied i j k room next a b h e =
+      let gs = grantsIn t in
+      let hs = take (j - i) (drop i gs) in
+      let many : length hs ≡ j - i = length-take-le (j - i) (drop i gs) (omega (arith, length-drop i gs, length-grants t)) in
+      e ∙ ap (sets room (place (i + k))) (records-part t bytes whole i j)
+      ∙ sym (records-written (i + k) hs room (all-part Fits i (j - i) gs (λ p _ _ l. all-getD Fits blank gs fit p l)) (omega (arith, many)))

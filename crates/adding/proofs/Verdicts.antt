@@ -1,5 +1,5 @@
 -- The new flow's tests, verdict by verdict. Assumes nothing.
-use mathlib.Core.Path.{_≡_, sym, ap, _∙_}
+use mathlib.Core.Path.{_≡_, sym, ap, ap₂, _∙_}
 use mathlib.Core.List.{List, [], _∷_, _++_}
 use Prim.Native.Nat.{ℕ, _+_, _/_, _≤_, _<_}
 use native.Mathlib.Omega.{arith}
@@ -18,12 +18,14 @@ use Rattle.lists.specs.Accepted.{Accepted}
 use Rattle.lists.proofs.Records.{length-flows}
 use Rattle.lists.proofs.RoundTrip.{listed}
 use Rattle.lists.proofs.Verdicts.{limited, not-limited}
-use Rattle.tables.specs.Tables.{count as tableCount, cycleOf, place as tablePlace, grantsOf as grantsIn}
+use Rattle.tables.specs.Tables.{count as tableCount, cycleOf, frameOf, place as tablePlace, grantsOf as grantsIn}
 use Rattle.tables.proofs.Records.{length-grants}
 use Rattle.pairing.specs.Parts.{newPairTests}
 use Rattle.pairing.proofs.Verdicts.{added-pairs}
 use Rattle.law.specs.Check.{check}
 use Rattle.law.proofs.Demand.{check-parts, check-is-lawful}
+use Rattle.law.proofs.Oversold.{passes-length}
+use Rattle.lists.proofs.Accepted.{accepted}
 use Rattle.offsets.specs.Adding.{withNew, test21, listBytes, tableBytes}
 use Rattle.lists.proofs.OneMore.{cycle-same, frame-same, grants-more}
 
@@ -68,10 +70,22 @@ module _ (l : List ℕ) (f : Flow) (ok : tests1to7 l ≡ Passed) where
       let c = both-passed (test6 fs) _ (b .1) in
       ap (λ (x : Checked). x ⟫ (test21 fs f ⟫ test7 new)) (added-pairs fs f (b .0) (c .0)) ∙ chain-assoc (test5 new) (test6 new) (test21 fs f ⟫ test7 new)
 
--- ---- 9
+-- ---- what a table that passes tells
 
--- the bytes of the new list and of the new table, by the old ones
 module _ (l t : List ℕ) (f : Flow) (ok : check l t ≡ Passed) where
+  -- the list's cycle, frame and grants
+  pub told : (cycleOf t ≡ cycle (flowsOf l)) × (frameOf t ≡ frame (flowsOf l)) × (tableCount t ≡ grants (flowsOf l))
+  told =
+      let w = check-is-lawful l t .0 ok in
+      let p = check-parts l t .0 ok in
+      (w .same-cycle, w .same-frame, sym (length-grants t) ∙ passes-length (flowsOf l) (accepted l (p .list) .distinct) (grantsIn t) (p .rules))
+
+  -- and with the new flow's the new list's grants
+  pub told-grants : tableCount t + cycleOf t / f .interval ≡ grants (flowsOf l) + grantsOf (cycle (flowsOf l)) f
+  unfolding grantsOf
+  told-grants = ap₂ (λ (n c : ℕ). n + c / f .interval) (told .2) (told .0)
+
+  -- for 9: the bytes of the new list and of the new table, by the old ones
   pub list-longer : length l + 6 ≡ listBytes (flowsOf l) f
   unfolding listBytes withNew tests1to7
   list-longer =

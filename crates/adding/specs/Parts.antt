@@ -1,6 +1,6 @@
 -- What the code's own parts ask and answer. Assumes nothing.
 use mathlib.Core.Path.{_≡_}
-use mathlib.Core.Bool.{Bool, true, not, _&&_}
+use mathlib.Core.Bool.{Bool, true, false, not, _&&_}
 use mathlib.Core.Logic.{_⊎_}
 use mathlib.Core.List.{List}
 use mathlib.Core.Option.{Option, none, some}
@@ -68,6 +68,13 @@ firstRun bs n i = smallest (runAt bs n i) 0 i
 -- record i of n starts before the slot x
 abbrev pub comesFirst : List ℕ → ℕ → ℕ → ℕ → Bool
 comesFirst t n i x = ltb i n && ltb (grantAt t i .start) x
+
+-- record r is the first of n from record i on that does not start before the slot x
+pub record NextFrom (t : List ℕ) (n i x r : ℕ) : Type 0 where
+  pub on : i ≤ r
+  pub within : r ≤ n
+  pub all : (p : ℕ) → i ≤ p → p < r → comesFirst t n p x ≡ true
+  pub ends : comesFirst t n r x ≡ false
 
 -- the grants of the new table, for the offset o
 abbrev pub grantsAfter : List ℕ → Flow → ℕ → List Grant

@@ -1,23 +1,21 @@
 // The smallest offset at which the new flow fits: the intervals of the cycle are laid over one another, and the first run of free
 // places is taken.
 ghost use mathlib.Core.Path.{_≡_};
-ghost use mathlib.Core.Bool.{cond};
+ghost use mathlib.Core.Bool.{true, cond};
 ghost use Prim.Native.Nat.{_+_, _-_, _*_, _%_, _≤_, _<_, min};
 ghost use lib.ListN.{length};
-ghost use Rattle.lists.specs.Lists.{count as flowCount, flowsOf};
+ghost use Rattle.logic.specs.Lists.{All};
+ghost use Rattle.lists.specs.Lists.{flowsOf};
 ghost use Rattle.tables.specs.Tables.{count, grantsOf as grantsIn};
-ghost use Rattle.law.specs.Check.{slots};
+ghost use Rattle.law.specs.Check.{known, slots};
 ghost use Rattle.finding.specs.Parts.{Indexed};
 ghost use Rattle.marks.specs.Marks.{marked};
 ghost use Rattle.offsets.specs.Offsets.{offset};
 ghost use Rattle.adding.specs.Parts.{Joins, Unmarked, Laid, Overlaid, firstRun, firstOf};
 use facts::occupies;
-use finding::ABSENT;
-use finding::NUMBERS;
-use finding::find;
-use finding::index;
 use finding::record_of;
 use flows::Flow;
+use lists::flow_at;
 use marks::alike;
 use marks::mark_run;
 use marks::marked;
@@ -64,26 +62,32 @@ fn mark_slots(taken: &mut [u8], interval: u16, start: u16, slots: u16)
     }
 }
 
-// The slots of a grant of the table, whose flow is one of the list's n.
-fn slots_of(list: &[u8], n: usize, records: &[u8], g: Grant) -> u16
-    requires { ⌜ Indexed (flowsOf (now list)) 0 (now records) × (n ≡ flowCount (now list)) ⌝ }
+// The slots of a grant of the table, whose flow is one of the list's: the index names its record.
+fn slots_of(list: &[u8], firsts: &[u8; 256], nexts: &[u8; 128], g: Grant) -> u16
+    requires { ⌜ Indexed (flowsOf (now list)) (now firsts) (now nexts) × (known (flowsOf (now list)) (g .flow) ≡ true) ⌝ }
     ensures { λ r. ⌜ r ≡ slots (flowsOf (now (list .entry))) g ⌝ }
 {
-    let found = find(list, n, record_of(records, g.flow), g.flow);
-    occupies(found.flow)
+    let k = record_of(list, firsts, nexts, g.flow);
+    occupies(flow_at(list, k))
 }
 
 // Marks the places in the interval of the slots of all grants.
-fn mark_grants(list: &[u8], records: &[u8], table: &[u8], interval: u16, taken: &mut [u8])
-    requires { ⌜ Indexed (flowsOf (now list)) 0 (now records) ⌝ }
+fn mark_grants(
+    list: &[u8],
+    firsts: &[u8; 256],
+    nexts: &[u8; 128],
+    table: &[u8],
+    interval: u16,
+    taken: &mut [u8],
+)
+    requires { ⌜ Indexed (flowsOf (now list)) (now firsts) (now nexts) × All (λ g. known (flowsOf (now list)) (g .flow) ≡ true) (grantsIn (now table)) ⌝ }
     requires { ⌜ (0 < interval) × (interval ≤ 8 * length (now taken)) ⌝ }
     requires { ⌜ Unmarked (now taken) ⌝ }
     ensures { λ _. ⌜ Overlaid (flowsOf (now (list .entry))) (grantsIn (now (table .entry))) (count (now (table .entry))) interval (now (taken .exit)) ⌝ }
 {
-    let flows = lists::count(list);
     for i in 0..tables::count(table) {
         let g = tables::grant_at(table, i);
-        let n = slots_of(list, flows, records, g);
+        let n = slots_of(list, firsts, nexts, g);
         mark_slots(taken, interval, g.start, n);
     }
 }
@@ -116,13 +120,17 @@ fn first_run(taken: &[u8], size: u16, interval: u16) -> First
 }
 
 // The smallest offset at which the new flow fits, if there is one.
-pub(crate) fn first_offset(list: &[u8], table: &[u8], f: Flow) -> First
-    requires { ⌜ Joins (now list) (now table) f ⌝ }
+pub(crate) fn first_offset(
+    list: &[u8],
+    firsts: &[u8; 256],
+    nexts: &[u8; 128],
+    table: &[u8],
+    f: Flow,
+) -> First
+    requires { ⌜ Indexed (flowsOf (now list)) (now firsts) (now nexts) × Joins (now list) (now table) f ⌝ }
     ensures { λ r. ⌜ r ≡ firstOf (offset (flowsOf (now (list .entry))) (grantsIn (now (table .entry))) f) ⌝ }
 {
-    let mut records = [ABSENT; NUMBERS];
-    index(list, &mut records);
     let mut taken = [0u8; BYTES];
-    mark_grants(list, &records, table, f.interval, &mut taken);
+    mark_grants(list, firsts, nexts, table, f.interval, &mut taken);
     first_run(&taken, occupies(f), f.interval)
 }

@@ -1,5 +1,7 @@
-pub mod Widths
 pub mod Turns
-pub mod Notes
+pub mod Cells
+pub mod Steps
+pub mod Taken
 pub mod Walked
 pub mod Verdicts
+pub mod Clean

@@ -1,5 +1,5 @@
 -- One turn of each loop of the check: what is left to look at, at entry i. Assumes nothing.
-use mathlib.Core.Path.{_≡_, ap, _∙_}
+use mathlib.Core.Path.{_≡_, refl, ap, _∙_}
 use mathlib.Core.List.{List, _∷_}
 use mathlib.Core.Option.{some}
 use Prim.Native.Nat.{ℕ, suc, _+_, _≤_, _<_}
@@ -9,6 +9,8 @@ use borrow.Author.Tests.{eq-eqb, ne-eqb}
 use Rattle.logic.proofs.Indices.{opens}
 use Rattle.refusals.proofs.Walks.{before}
 use Rattle.tables.specs.declared.packed.Grant.{Grant}
+use Rattle.tables.specs.Tables.{valuesAt, grantAt}
+use Rattle.tables.proofs.Records.{start-small}
 use Rattle.law.specs.Check.{nominal, to, last}
 use Rattle.law.specs.Law.{blank}
 
@@ -16,6 +18,9 @@ use Rattle.law.specs.Law.{blank}
 
 abbrev pub CountAt : List Grant → ℕ → ℕ → ℕ → Type 0
 CountAt gs x i k = (k ≤ i) × (k + length (to x (drop i gs)) ≡ length (to x gs))
+
+pub count-none : (gs : List Grant) (x : ℕ) → CountAt gs x 0 0
+count-none gs x = (omega arith, omega arith)
 
 module _ (gs : List Grant) (x i k : ℕ) (a : CountAt gs x i k) where
   pub count-end : length gs ≤ i → k ≡ length (to x gs)
@@ -36,6 +41,12 @@ module _ (gs : List Grant) (x i k : ℕ) (a : CountAt gs x i k) where
     count-other n =
         let s : length (to x (drop i gs)) ≡ length (to x (drop (i + 1) gs)) = rw (opens gs blank g i h e, to, ne-eqb (g .flow) x n) in
         (omega arith, omega arith)
+
+-- ---- the start of a grant has 12 bits
+
+pub grant-start : (t : List ℕ) (i : ℕ) → grantAt t i .start < 4096
+unfolding grantAt
+grant-start t i = start-small t i (valuesAt t i) refl
 
 -- ---- the last grant of a flow before record j, the one after record k
 

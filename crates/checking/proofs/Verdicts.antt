@@ -13,7 +13,7 @@ use Rattle.refusals.specs.Tests.{unless}
 use Rattle.refusals.proofs.Chains.{unless-yes, unless-no}
 use Rattle.facts.specs.declared.Span.{Span}
 use Rattle.facts.specs.Parts.{spanOf}
-use Rattle.lists.specs.Facts.{cycle, frame, grantsOf}
+use Rattle.lists.specs.Facts.{cycle, grantsOf}
 use Rattle.tables.specs.declared.packed.Grant.{Grant}
 use Rattle.tables.specs.Tables.{cycleOf, frameOf}
 use Rattle.law.specs.Check.{to, test13, counted}

@@ -1,17 +1,16 @@
 // Tests 14, 16, 17 and 18 in one walk over the grants of a table: the first fault of each is noted.
 ghost use mathlib.Core.Path.{_≡_};
-ghost use lib.ListN.{replicate};
 ghost use Rattle.refusals.specs.declared.Refusal.the-variants.{GrantCount};
 ghost use Rattle.refusals.specs.declared.Checked.{Checked};
 ghost use Rattle.lists.specs.Lists.{flowsOf};
 ghost use Rattle.lists.specs.Facts.{cycle as cycleOf};
+ghost use Rattle.lists.specs.Accepted.{Accepted};
 ghost use Rattle.tables.specs.Tables.{grantsOf};
 ghost use Rattle.finding.specs.Parts.{Indexed};
 ghost use Rattle.checking.specs.Parts.{noted, note, next, answers, testsWith};
-use crate::timing::last_of;
 use crate::timing::stamp;
 use crate::timing::timely;
-use finding::find;
+use finding::FLOWS;
 use finding::record_of;
 use flows::Flow;
 use refusals::Checked;
@@ -58,17 +57,17 @@ fn next(seen: Seen, timely: bool, f: Flow, g: Grant, cycle: u16, here: usize) ->
 // The first faults of a table; of test 14 alone where a flow is not in the list. A flow's cell says the nominal time of its last grant so far.
 pub(crate) fn faults(
     list: &[u8],
-    records: &[u8],
+    firsts: &[u8; 256],
+    nexts: &[u8; 128],
     cycle: u16,
     table: &[u8],
-    cells: &mut [u16],
+    cells: &mut [u16; 128],
 ) -> Seen
-    requires { ⌜ Indexed (flowsOf (now list)) 0 (now records) × (now cells ≡ replicate 129 0) ⌝ }
-    requires { ⌜ cycle ≡ cycleOf (flowsOf (now list)) ⌝ }
+    requires { ⌜ Accepted (flowsOf (now list)) × Indexed (flowsOf (now list)) (now firsts) (now nexts) × (cycle ≡ cycleOf (flowsOf (now list))) ⌝ }
     ensures { λ r. ⌜ ((counts : Checked) → answers r counts ≡ testsWith (flowsOf (now (list .entry))) (grantsOf (now (table .entry))) counts) ⌝ }
 {
+    *cells = [0u16; FLOWS];
     let n = tables::count(table);
-    let flows = lists::count(list);
     let mut seen = Seen {
         unknown: 0,
         timing: 0,
@@ -78,9 +77,8 @@ pub(crate) fn faults(
     };
     for i in 0..n {
         let g = tables::grant_at(table, i);
-        let k = record_of(records, g.flow);
-        let found = find(list, flows, k, g.flow);
-        if !found.known {
+        let k = record_of(list, firsts, nexts, g.flow);
+        if FLOWS <= k {
             return Seen {
                 unknown: i + 1,
                 timing: 0,
@@ -89,22 +87,16 @@ pub(crate) fn faults(
                 end: 0,
             };
         }
-        let last = last_of(table, cells, k, i, g.flow);
-        seen = next(
-            seen,
-            timely(found.flow, last, g),
-            found.flow,
-            g,
-            cycle,
-            i + 1,
-        );
-        cells[k] = stamp(g);
+        let f = lists::flow_at(list, k);
+        let timely = timely(f.jitter, f.interval, cells[k], g.start, g.late);
+        seen = next(seen, timely, f, g, cycle, i + 1);
+        cells[k] = stamp(g.start, g.late);
     }
     seen
 }
 
 // What tests 14 to 18 say together, if `counts` is the place that is noted for test 15.
-pub fn answer(seen: Seen, counts: usize) -> Checked
+pub(crate) fn answer(seen: Seen, counts: usize) -> Checked
     ensures { λ r. ⌜ r ≡ answers seen (noted GrantCount counts) ⌝ }
 {
     if seen.unknown != 0 {

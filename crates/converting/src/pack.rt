@@ -8,6 +8,7 @@ ghost use Rattle.settings.specs.Slots.{channel};
 ghost use Rattle.settings.specs.Tests.{settingsAnswer, settingsRoom};
 use crate::survey::Survey;
 use crate::survey::survey_of;
+use pairing::BITS;
 use pairing::pair_tests;
 use refusals::Checked;
 use refusals::Refusal;
@@ -18,7 +19,8 @@ fn test_and_put(list: &[u8], room: &mut [u8]) -> Written
     ensures { λ r. ⌜ r ≡ answer (pairTests (flowsOf (now (list .entry)))) (now (list .entry)) (length (now (room .entry))) ⌝ }
     ensures { λ _. ⌜ now (room .exit) ≡ written (pairTests (flowsOf (now (list .entry)))) (now (list .entry)) (now (room .entry)) ⌝ }
 {
-    let pairs = pair_tests(list);
+    let mut bits = [0u8; BITS];
+    let pairs = pair_tests(list, &mut bits);
     if let Checked::Refused(r) = pairs {
         return Written::Refused(r);
     }

@@ -1,35 +1,24 @@
-// The flow of a grant, looked up in the list: for each number a list record is noted, and a search starts there.
+// A list's records, found by the numbers of their flows: the records are noted by the last eight bits of their numbers, and a search goes through those that share them.
 //
 // No public function asks anything of its caller.
 ghost use mathlib.Core.Path.{_≡_};
-ghost use Prim.Native.Nat.{_%_, _<_, min};
-ghost use lib.ListN.{drop, replicate};
-ghost use Rattle.lists.specs.Lists.{flowsFrom, flowsOf};
-ghost use Rattle.finding.specs.Parts.{found, recordOf, Indexed};
-use flows::Flow;
+ghost use Prim.Native.Nat.{_%_, _≤_, _<_, min};
+ghost use Rattle.lists.specs.Lists.{count, flowsOf};
+ghost use Rattle.finding.specs.Parts.{recordOf, Indexed};
 use lists::count;
 use lists::flow_at;
-
-// A flow, and whether the list has it.
-pub struct Found {
-    pub known: bool,
-    pub flow: Flow,
-}
 
 // The flows of the longest list.
 pub const FLOWS: usize = 128;
 
-// Numbers are below this one.
-pub const NUMBERS: usize = 1024;
-
-// What is noted for a number that no flow of the longest list has.
+// What is noted where there is no record.
 pub const ABSENT: u8 = 128;
 
-// Where the record of a number is noted.
-fn entry(number: u16) -> usize
-    ensures { λ r. ⌜ (r ≡ number % 1024) × (r < 1024) ⌝ }
+// The last eight bits of a number.
+fn last_bits(number: u16) -> usize
+    ensures { λ r. ⌜ (r ≡ number % 256) × (r < 256) ⌝ }
 {
-    (number % 1024) as usize
+    (number % 256) as usize
 }
 
 // How many of n records are noted: no more than the longest list has.
@@ -39,47 +28,46 @@ fn noted(n: usize) -> usize
     if n < FLOWS { n } else { FLOWS }
 }
 
-// Notes for each number the first list record that has it, where nothing is noted yet for any of them.
-pub fn index(list: &[u8], records: &mut [u8])
-    ensures { λ _. ⌜ (now (records .entry) ≡ replicate 1024 128 → Indexed (flowsOf (now (list .entry))) 0 (now (records .exit))) ⌝ }
+// Notes for any last eight bits the first record with them, and for each record the next one with the same.
+pub fn index(list: &[u8], firsts: &mut [u8; 256], nexts: &mut [u8; 128])
+    ensures { λ _. ⌜ (count (now (list .entry)) ≤ 128 → Indexed (flowsOf (now (list .entry))) (now (firsts .exit)) (now (nexts .exit))) ⌝ }
 {
-    if records.len() != NUMBERS {
-        return;
-    }
+    *firsts = [ABSENT; 256];
+    *nexts = [ABSENT; FLOWS];
     let mut i = noted(count(list));
     while 0 < i {
         i -= 1;
-        let k = entry(flow_at(list, i).number);
-        records[k] = i as u8;
+        let k = last_bits(flow_at(list, i).number);
+        nexts[i] = firsts[k];
+        firsts[k] = i as u8;
     }
 }
 
-// The list record, counted from 0, that is noted for the number; 0 where nothing is noted at all.
-pub fn record_of(records: &[u8], number: u16) -> usize
-    ensures { λ r. ⌜ r ≡ recordOf (now (records .entry)) number ⌝ }
+// The record that a note says.
+fn record_in(note: u8) -> usize
+    ensures { λ r. ⌜ r ≡ note ⌝ }
 {
-    let k = entry(number);
-    if k < records.len() {
-        return records[k] as usize;
-    }
-    0
+    note as usize
 }
 
-// The flow of that number among n records of the list, searched from record k on; zeros where there is none.
-pub fn find(list: &[u8], n: usize, k: usize, number: u16) -> Found
-    ensures { λ r. ⌜ r ≡ found (drop k (flowsFrom (now (list .entry)) 0 n)) number ⌝ }
+// The record that the note of record k says: one further on, or else none.
+fn behind(k: usize, note: u8) -> usize
+    ensures { λ r. ⌜ (k < note → r ≡ note) × (k < 128 → k < r) ⌝ }
 {
-    for i in k..n {
-        let f = flow_at(list, i);
-        if f.number == number {
-            return Found {
-                known: true,
-                flow: f,
-            };
+    let next = record_in(note);
+    if k < next { next } else { FLOWS }
+}
+
+// The record, counted from 0, of the first flow with that number; 128 where none has it. The search follows the notes as long as they rise.
+pub fn record_of(list: &[u8], firsts: &[u8; 256], nexts: &[u8; 128], number: u16) -> usize
+    ensures { λ r. ⌜ (Indexed (flowsOf (now (list .entry))) (now (firsts .entry)) (now (nexts .entry)) → r ≡ recordOf (flowsOf (now (list .entry))) number) ⌝ }
+{
+    let mut k = record_in(firsts[last_bits(number)]);
+    while k < FLOWS {
+        if flow_at(list, k).number == number {
+            return k;
         }
+        k = behind(k, nexts[k]);
     }
-    Found {
-        known: false,
-        flow: Flow::NONE,
-    }
+    FLOWS
 }

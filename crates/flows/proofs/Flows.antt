@@ -1,14 +1,14 @@
 -- A flow's rule, and its record there and back. Assumes nothing.
 use mathlib.Core.Path.{_≡_, ap, _∙_}
 use mathlib.Core.Bool.{true, false}
-use mathlib.Core.List.{List, _++_}
+use mathlib.Core.List.{List, [], _∷_, _++_}
 use Prim.Native.Nat.{ℕ, _≤_, _<_}
 use native.Mathlib.Omega.{arith}
 use lib.Dec.{leb, lit<}
 use lib.ListN.{length, getD, take}
 use borrow.Author.Tests.{lt-ltb, le-leb, ltb-true, leb-true}
 use Rattle.logic.specs.Numbers.{among}
-use Rattle.logic.proofs.Tests.{by-test, and-both, among-both}
+use Rattle.logic.proofs.Tests.{by-test, by-lt, and-both, among-both}
 use Rattle.fields.specs.declared.kind.Kind.the-variants.{ListRecord}
 use Rattle.flows.specs.declared.flow.Flow.{Flow}
 use Rattle.flows.specs.declared.flow.Rule.the-variants.{Kept, Broken}
@@ -80,6 +80,17 @@ length-packed-flow f = length-packed ListRecord (fieldsOf f)
 pub flow-short : (bs : List ℕ) → length bs < 6 → flowOf bs ≡ noFlow
 unfolding flowOf
 flow-short bs h = ap flowWith (values-short ListRecord bs h)
+
+-- the number that is read has 10 bits, the interval 13
+pub flow-small : (bs : List ℕ) → (flowOf bs .number < 1024) × (flowOf bs .interval < 8192)
+unfolding flowOf
+flow-small bs = by-lt (length bs) 6 (λ h. rw (values-short ListRecord bs h) (omega arith, omega arith)) (λ h. read (valuesOf ListRecord bs) (values-fit ListRecord bs h))
+  where
+    read : (vs : List ℕ) → Fit (widths ListRecord) vs → (getD vs 0 0 < 1024) × (getD vs 2 0 < 8192)
+    read [] f = absurd f
+    read (a ∷ []) f = absurd (f .1)
+    read (a ∷ b ∷ []) f = absurd (f .1 .1)
+    read (a ∷ b ∷ c ∷ vs) f = (f .0, f .1 .1 .0)
 
 -- a record is read back, whatever stands behind it
 pub flow-packed : (f : Flow) (rest : List ℕ) → Keeps f → flowOf (packedFlow f ++ rest) ≡ f

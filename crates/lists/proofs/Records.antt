@@ -1,7 +1,7 @@
 -- A record of a list, read and written at its place. Assumes nothing.
 use mathlib.Core.Path.{_≡_, refl, sym, ap}
 use mathlib.Core.List.{List, _++_}
-use Prim.Native.Nat.{ℕ, _+_, _-_, _<_}
+use Prim.Native.Nat.{ℕ, _+_, _-_, _≤_, _<_}
 use native.Mathlib.Omega.{arith}
 use lib.ListN.{length, getD, take, drop, length-drop}
 use Rattle.logic.proofs.Indices.{length-from, entry-is}
@@ -54,8 +54,8 @@ module _ (f : Flow) (i : ℕ) (room : List ℕ) where
   unfolding recordStored recordAfter
   record-beyond h = ends-beyond ListRecord (place i) (fieldsOf f) room (omega arith)
 
-  pub record-part : (a : Stored) (ys : List ℕ) → let part = take (length room - place i) (drop (place i) room) in
+  pub record-part : place i + 6 ≤ length room → (n : ℕ) → n ≡ 6 → (a : Stored) (ys : List ℕ) → let part = take n (drop (place i) room) in
       a ≡ stored ListRecord (fieldsOf f) (length part) → ys ≡ roomAfter ListRecord (fieldsOf f) part
-      → (a ≡ recordStored f i (length room)) × (take (place i) room ++ (ys ++ drop (length room - place i) (drop (place i) room)) ≡ recordAfter f i room)
+      → (a ≡ recordStored f i (length room)) × (take (place i) room ++ (ys ++ drop n (drop (place i) room)) ≡ recordAfter f i room)
   unfolding recordStored recordAfter
   record-part = ends-part ListRecord (place i) (fieldsOf f) room

@@ -64,11 +64,10 @@ pub fn write_record(f: Flow, i: usize, room: &mut [u8]) -> Stored
     ensures { λ r. ⌜ r ≡ recordStored f i (length (now (room .entry))) ⌝ }
     ensures { λ _. ⌜ now (room .exit) ≡ recordAfter f i (now (room .entry)) ⌝ }
 {
-    let end = room.len();
-    if !holds(end, i) {
+    if !holds(room.len(), i) {
         return Stored::Short;
     }
     let start = 4 + 6 * i;
     let values = [f.number, f.size, f.interval, f.jitter, 0, 0];
-    fields::write(Kind::ListRecord, values, &mut room[start..end])
+    fields::write(Kind::ListRecord, values, &mut room[start..start + 6])
 }

@@ -1,2 +1,3 @@
 pub mod Verdicts
-pub mod Seen
+pub mod Noting
+pub mod Keeping

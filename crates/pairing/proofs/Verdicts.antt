@@ -3,22 +3,28 @@ use mathlib.Core.Path.{_≡_, sym, ap, ap₂, _∙_}
 use mathlib.Core.Bool.{Bool, true, false, _&&_}
 use mathlib.Core.List.{List, [], _∷_, _++_}
 use Prim.Native.Nat.{ℕ, suc, _+_, _≤_, _<_}
-use lib.ListN.{length, getD}
+use native.Mathlib.Numerals.{add-one}
+use lib.ListN.{length, getD, drop}
 use Rattle.logic.specs.Lists.{every}
 use Rattle.flows.specs.declared.flow.Flow.{Flow}
 use Rattle.flows.specs.Flows.{noFlow}
+use Rattle.flows.proofs.Flows.{flow-small}
 use Rattle.refusals.specs.declared.Checked.the-variants.{Passed, Refused}
 use Rattle.refusals.specs.Tests.{_⟫_, unless}
 use Rattle.refusals.proofs.Chains.{unless-yes, unless-no}
-use Rattle.refusals.proofs.Walks.{before, walk-next, walk-here, walk-end, walk-more}
-use Rattle.lists.specs.Lists.{count, flowAt, flowsOf}
+use Rattle.refusals.proofs.Walks.{before, walk, walk-next, walk-here, walk-end, walk-more}
+use Rattle.lists.specs.Lists.{count, place, flowAt, flowsOf}
 use Rattle.lists.specs.Tests.{newNumber, test5, relatedInterval, test6}
 use Rattle.lists.proofs.Records.{length-flows, flow-is}
 use Rattle.pairing.specs.declared.pairs.Pair.{Pair}
 use Rattle.pairing.specs.declared.pairs.Pair.the-variants.{Number, Interval}
-use Rattle.pairing.specs.Parts.{agreesWith, refusalOf, pairTest, Settled, newPairTest, newPairTests}
+use Rattle.pairing.specs.Parts.{agreesWith, refusalOf, pairTest, newPairTest, newPairTests}
 
 -- ---- test 5 or 6, record by record
+
+-- it says of the records from i on what it says of all: those before pass
+abbrev pub Settled : Pair → List Flow → ℕ → Type 0
+Settled pair fs i = walk (refusalOf pair) (agreesWith pair) fs noFlow i ≡ pairTest pair fs
 
 module _ (pair : Pair) (l : List ℕ) (i : ℕ) (s : Settled pair (flowsOf l) i) where
   -- no record is left
@@ -37,6 +43,11 @@ module _ (pair : Pair) (l : List ℕ) (i : ℕ) (s : Settled pair (flowsOf l) i)
     pub settled-here : b ≡ false → Refused (refusalOf pair (i + 1)) ≡ pairTest pair (flowsOf l)
     settled-here t = walk-here (refusalOf pair) (agreesWith pair) (flowsOf l) noFlow i (rw (length-flows l) h) b judged t ∙ s
 
+-- its number has 10 bits, its interval 13
+pub record-small : (l : List ℕ) (i : ℕ) → (flowAt l i .number < 1024) × (flowAt l i .interval < 8192)
+unfolding flowAt
+record-small l i = flow-small (drop (place i) l)
+
 -- ---- every earlier record
 
 module _ (ok : Flow → Bool) (fs : List Flow) (j k : ℕ) (e : suc k ≡ j) (f : Flow) (q : f ≡ getD fs k noFlow) where
@@ -49,6 +60,11 @@ module _ (ok : Flow → Bool) (fs : List Flow) (j k : ℕ) (e : suc k ≡ j) (f 
 
   pub every-here : ok f ≡ false → every ok (before fs noFlow j) ≡ false
   every-here t = opens ∙ rw t
+
+-- one record more, record i of a list
+pub every-more : (ok : Flow → Bool) (l : List ℕ) (i : ℕ) (f : Flow) → i < count l → f ≡ flowAt l i
+    → every ok (before (flowsOf l) noFlow (i + 1)) ≡ ok f && every ok (before (flowsOf l) noFlow i)
+every-more ok l i f h e = opens ok (flowsOf l) (i + 1) i (sym (add-one i)) f (flow-is l i f h e)
 
 -- ---- one flow more
 

@@ -1,34 +1,26 @@
 // Tests 5 and 6 of a packed list.
 ghost use mathlib.Core.Path.{_≡_};
 ghost use Rattle.lists.specs.Lists.{flowsOf};
-ghost use Rattle.lists.specs.Tests.{test5};
 ghost use Rattle.pairing.specs.Parts.{pairTests, newPairTest, newPairTests};
-use crate::intervals::related_up_to;
-use crate::numbers::new_up_to;
+use crate::intervals::interval_test;
+use crate::numbers::BITS;
+use crate::numbers::number_test;
 use crate::pairs::Pair;
 use crate::pairs::agrees_with_earlier;
-use crate::pairs::pair_test;
 use crate::pairs::refusal;
 use flows::Flow;
 use lists::count;
 use refusals::Checked;
 
-// Test 5 of a list.
-pub fn number_test(list: &[u8]) -> Checked
-    ensures { λ r. ⌜ r ≡ test5 (flowsOf (now (list .entry))) ⌝ }
-{
-    pair_test(Pair::Number, list, new_up_to(list))
-}
-
-// Tests 5 and 6 of a list, in their order.
-pub fn pair_tests(list: &[u8]) -> Checked
+// Tests 5 and 6 of a list, in their order. The lent bytes may hold anything before and after.
+pub fn pair_tests(list: &[u8], bits: &mut [u8; BITS]) -> Checked
     ensures { λ r. ⌜ r ≡ pairTests (flowsOf (now (list .entry))) ⌝ }
 {
-    let numbers = pair_test(Pair::Number, list, new_up_to(list));
+    let numbers = number_test(list, bits);
     if let Checked::Refused(r) = numbers {
         return Checked::Refused(r);
     }
-    pair_test(Pair::Interval, list, related_up_to(list))
+    interval_test(list)
 }
 
 // Test 5 or 6 of one flow more.

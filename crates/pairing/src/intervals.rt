@@ -1,75 +1,71 @@
-// Test 6, quickly: the intervals that differ are kept, and a record's interval is compared with those alone.
+// Test 6: the intervals that differ are kept, and a record's interval is compared with those alone.
+//
+// Each stands in the cell of its leading zeros as one more than it is; 0 is none. Two intervals with as many leading zeros are related
+// only if they are the same, for the larger is less than twice the smaller. So each kept interval has a cell of its own.
 ghost use mathlib.Core.Path.{_≡_};
 ghost use mathlib.Core.Bool.{true};
-ghost use Prim.Native.Nat.{ℕ, _≤_, _<_};
-ghost use lib.ListN.{length, getD};
+ghost use Prim.Native.Nat.{_<_};
 ghost use Rattle.lists.specs.Lists.{flowsOf};
-ghost use Rattle.lists.specs.Facts.{related};
-ghost use Rattle.pairing.specs.Parts.{Settled, OneOf, Chain, Kept};
-use crate::pairs::Pair;
+ghost use Rattle.lists.specs.Tests.{test6};
+ghost use Rattle.pairing.specs.Parts.{agreesWithCell, relatedToKept, Chain, Kept};
 use crate::pairs::related;
 use lists::count;
 use lists::flow_at;
+use refusals::Checked;
+use refusals::Refusal;
 
-// Room for the intervals that differ. Of related ones up to 4,096 no more than 13 differ.
-const INTERVALS: usize = 16;
+// A cell for each count of leading zeros, 0 to 16.
+const CELLS: usize = 17;
 
-// The interval x is one of the first k.
-fn is_kept(kept: &[u16], k: usize, x: u16) -> bool
-    requires { ⌜ k ≤ length (now kept) ⌝ }
-    ensures { λ r. ⌜ (r ≡ true → OneOf (now (kept .entry)) k x) ⌝ }
+// The cell is empty, or its interval is related to x.
+fn agrees_with_cell(cell: u16, x: u16) -> bool
+    ensures { λ r. ⌜ r ≡ agreesWithCell x cell ⌝ }
 {
-    for j in 0..k {
-        if kept[j] == x {
-            return true;
-        }
+    if cell == 0 {
+        return true;
     }
-    false
+    related(cell - 1, x)
 }
 
-// The interval x is related to each of the first k.
-fn related_to_kept(kept: &[u16], k: usize, x: u16) -> bool
-    requires { ⌜ k ≤ length (now kept) ⌝ }
-    ensures { λ r. ⌜ (r ≡ true → (j : ℕ) → j < k → related (getD (now (kept .entry)) j 0) x ≡ true) ⌝ }
+// The interval x is related to each that is kept.
+fn related_to_kept(kept: &[u16], x: u16) -> bool
+    ensures { λ r. ⌜ r ≡ relatedToKept (now (kept .entry)) x ⌝ }
 {
-    for j in 0..k {
-        if !related(kept[j], x) {
+    for j in 0..kept.len() {
+        if !agrees_with_cell(kept[j], x) {
             return false;
         }
     }
     true
 }
 
-// Keeps the interval x with the first k, and answers how many are kept then; 0 if x is unrelated to one of them or there is no room.
-fn keep(kept: &mut [u16], k: usize, x: u16) -> usize
-    requires { ⌜ (k ≤ length (now kept)) × Chain (now kept) k ⌝ }
-    ensures { λ r. ⌜ (0 < r → Kept (now (kept .entry)) k x (now (kept .exit)) r) ⌝ }
+// The interval x, of 13 bits, is related to each that is kept, and is kept then too.
+fn keep(kept: &mut [u16], x: u16) -> bool
+    requires { ⌜ (x < 8192) × Chain (now kept) ⌝ }
+    ensures { λ r. ⌜ r ≡ relatedToKept (now (kept .entry)) x ⌝ }
+    ensures { λ r. ⌜ (r ≡ true → Kept (now (kept .entry)) x (now (kept .exit))) ⌝ }
 {
-    if is_kept(kept, k, x) {
-        return k;
+    let own = u16::leading_zeros(x) as usize;
+    if kept[own] == x + 1 {
+        return true;
     }
-    if !related_to_kept(kept, k, x) {
-        return 0;
+    if !related_to_kept(kept, x) {
+        return false;
     }
-    if kept.len() <= k {
-        return 0;
-    }
-    kept[k] = x;
-    k + 1
+    kept[own] = x + 1;
+    true
 }
 
-// How many records, from the first on, pass test 6: all that do, unless more intervals differ than there is room for.
-pub(crate) fn related_up_to(list: &[u8]) -> usize
-    ensures { λ r. ⌜ Settled Pair.Interval (flowsOf (now (list .entry))) r ⌝ }
+// Test 6 of a list: the first record whose interval is unrelated to one that is kept.
+pub(crate) fn interval_test(list: &[u8]) -> Checked
+    ensures { λ r. ⌜ r ≡ test6 (flowsOf (now (list .entry))) ⌝ }
 {
     let n = count(list);
-    let mut kept = [0u16; INTERVALS];
-    let mut k: usize = 0;
+    let mut kept = [0u16; CELLS];
     for i in 0..n {
-        k = keep(&mut kept, k, flow_at(list, i).interval);
-        if k == 0 {
-            return i;
+        if !keep(&mut kept, flow_at(list, i).interval) {
+            return Checked::Refused(Refusal::Unrelated(i + 1));
         }
     }
-    n
+    Checked::Passed
 }

@@ -6,11 +6,10 @@ ghost use Rattle.flows.specs.Flows.{noFlow};
 ghost use Rattle.refusals.proofs.Walks.{before};
 ghost use Rattle.lists.specs.Lists.{count, flowsOf};
 ghost use Rattle.lists.specs.Facts.{related};
-ghost use Rattle.pairing.specs.Parts.{agrees, agreesWith, refusalOf, pairTest, Settled};
+ghost use Rattle.pairing.specs.Parts.{agrees, agreesWith, refusalOf};
 use flows::Flow;
 use lists::count;
 use lists::flow_at;
-use refusals::Checked;
 use refusals::Refusal;
 
 // What two records are compared by.
@@ -75,19 +74,4 @@ pub(crate) fn refusal(pair: Pair, p: usize) -> Refusal
         Pair::Number => Refusal::UsedNumber(p),
         Pair::Interval => Refusal::Unrelated(p),
     }
-}
-
-// Test 5 or 6: the first record that does not agree with every earlier one. Those before record `start` are known to agree.
-pub(crate) fn pair_test(pair: Pair, list: &[u8], start: usize) -> Checked
-    requires { ⌜ Settled pair (flowsOf (now list)) start ⌝ }
-    ensures { λ r. ⌜ r ≡ pairTest pair (flowsOf (now (list .entry))) ⌝ }
-{
-    let n = count(list);
-    for i in start..n {
-        let f = flow_at(list, i);
-        if !agrees_with_earlier(pair, list, i, f) {
-            return Checked::Refused(refusal(pair, i + 1));
-        }
-    }
-    Checked::Passed
 }

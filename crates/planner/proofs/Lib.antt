@@ -10,6 +10,7 @@ pub mod Bounds
 pub mod Growing
 pub mod Closing
 pub mod Turns
+pub mod Ordering
 pub mod Reaching
 pub mod Housing
 pub mod Writing

@@ -14,7 +14,7 @@ use Rattle.logic.specs.Lists.{sum}
 use Rattle.lists.specs.Facts.{occupies}
 use Rattle.placing.specs.Rule.{Settled, Frame, weight, content, past, within, lawful, contents, olds, settle}
 use Rattle.planner.specs.Cells.{over, loads}
-use Rattle.planner.specs.Cells.{limit, limits, stamp, endCells, keep, stands, members, granted, standing}
+use Rattle.planner.specs.Cells.{limit, limits, ends, stamp, endCells, keep, stands, members, granted, standing}
 use Rattle.planner.specs.State.{Agrees, Before}
 use Rattle.logic.proofs.Appends.{sum-append}
 use Rattle.placing.proofs.Layouts.{settle-length}
@@ -91,14 +91,22 @@ limits-at [] m h = absurd (omega arith)
 limits-at (g ∷ hs) zero h = refl
 limits-at (g ∷ hs) (suc m) h = limits-at hs m (omega arith)
 
+pub ends-are : (φ d j : ℕ) (cs ls ks bs : List ℕ) → let k = getD ks j 0 in let o = over φ 0 (take k cs) in
+    ends φ d j cs ls ks bs ≡ record { limits = set ls k (min (o + d) (getD ls k 0)); bases = set bs j o }
+unfolding ends
+ends-are φ d j cs ls ks bs = refl
+
 -- one flow of the list: the two ways
 module _ (φ i j : ℕ) (cs ls ks bs : List ℕ) (f : Flow) where
-  abbrev pub own-base : ℕ
+  abbrev own-base : ℕ
   own-base = over φ 0 (take (getD ks j 0) cs)
 
-  pub stamp-own : f .interval ≡ i → stamp φ i j cs ls ks bs f ≡ record { limits = set ls (getD ks j 0) (min (own-base + f .jitter) (getD ls (getD ks j 0) 0)); bases = set bs j own-base }
+  pub stamp-ends : f .interval ≡ i → stamp φ i j cs ls ks bs f ≡ ends φ (f .jitter) j cs ls ks bs
   unfolding stamp
-  stamp-own e = rw (eq-eqb (f .interval) i e, stamp)
+  stamp-ends e = rw (eq-eqb (f .interval) i e, stamp)
+
+  stamp-own : f .interval ≡ i → stamp φ i j cs ls ks bs f ≡ record { limits = set ls (getD ks j 0) (min (own-base + f .jitter) (getD ls (getD ks j 0) 0)); bases = set bs j own-base }
+  stamp-own e = stamp-ends e ∙ ends-are φ (f .jitter) j cs ls ks bs
 
   pub stamp-other : (f .interval ≡ i → ⊥) → stamp φ i j cs ls ks bs f ≡ record { limits = ls; bases = bs }
   unfolding stamp

@@ -5,7 +5,7 @@ use mathlib.Core.Bool.{Bool, true, false, _&&_}
 use mathlib.Core.List.{List, [], _∷_, _++_, map}
 use Prim.Native.Nat.{ℕ, suc, _+_, _*_, _/_, _%_, _≤_, _<_, min}
 use lib.Dec.{ltb, eqb}
-use lib.ListN.{length, getD, set, take}
+use lib.ListN.{length, getD, set, take, drop}
 use Rattle.logic.specs.Lists.{All}
 use Rattle.flows.specs.declared.flow.Flow.{Flow}
 use Rattle.lists.specs.Facts.{occupies}
@@ -23,14 +23,6 @@ over φ o (c ∷ cs) = over φ (past φ o c) cs
 -- a walk along the frames stands at frame k, and the overhang o comes into it
 abbrev pub Reached : ℕ → List ℕ → ℕ → ℕ → Type 0
 Reached φ cs k o = (k ≤ length cs) × (o ≤ 65535 * k) × (o ≡ over φ 0 (take k cs))
-
--- none of the first k frames has a free slot
-abbrev pub Full : ℕ → List ℕ → ℕ → Type 0
-Full φ cs k = (j : ℕ) → j < k → φ ≤ over φ 0 (take j cs) + getD cs j 0
-
--- a search may start at frame k
-abbrev pub Starts : ℕ → List ℕ → ℕ → ℕ → Type 0
-Starts φ cs k o = Reached φ cs k o × Full φ cs k
 
 -- the contents of a layout's frames
 unfoldable pub loads : List (List Settled) → List ℕ
@@ -61,6 +53,14 @@ opens φ s o [] ls = false
 opens φ s o (c ∷ cs) [] = false
 opens φ s o (c ∷ cs) (l ∷ ls) = elim (ltb (o + c) φ) [ true ↦ runs φ (past φ (o + c) s) cs ls | false ↦ false ]
 
+-- none of the first k frames opens for s slots
+abbrev pub Shut : ℕ → ℕ → List ℕ → List ℕ → ℕ → Type 0
+Shut φ s cs ls k = (j : ℕ) → j < k → opens φ s (over φ 0 (take j cs)) (drop j cs) (drop j ls) ≡ false
+
+-- a search for s slots may start at frame k
+abbrev pub Starts : ℕ → ℕ → List ℕ → List ℕ → ℕ → ℕ → Type 0
+Starts φ s cs ls k o = Reached φ cs k o × Shut φ s cs ls k
+
 -- the first such frame, counted from k
 unfoldable pub first : ℕ → ℕ → ℕ → ℕ → List ℕ → List ℕ → Found
 first φ s k o [] ls = Nowhere
@@ -81,9 +81,6 @@ pub record Step : Type 0 where
   pub stands : Bool
   pub contents : List ℕ
   pub frames : List ℕ
-
-abbrev pub stepOf : Bool → List ℕ → List ℕ → Step
-stepOf b cs ks = record { stands = b; contents = cs; frames = ks }
 
 -- the flow f, which has the index j, in its first lawful frame; a flow of another interval than i stands as it is
 unfoldable pub step : ℕ → ℕ → ℕ → List ℕ → List ℕ → List ℕ → Flow → Step
@@ -123,13 +120,18 @@ pub record Ended : Type 0 where
 abbrev pub endedOf : List ℕ → List ℕ → Ended
 endedOf ls bs = record { limits = ls; bases = bs }
 
--- the flow f, which has the index j, if its interval is i: the overhang of its frame is its base, and the frame bears no more than its jitter
-unfoldable pub stamp : ℕ → ℕ → ℕ → List ℕ → List ℕ → List ℕ → List ℕ → Flow → Ended
-stamp φ i j cs ls ks bs f =
+-- a flow with the jitter d, which has the index j: the overhang of its frame is its base, and the frame bears no more than its jitter
+unfoldable pub ends : ℕ → ℕ → ℕ → List ℕ → List ℕ → List ℕ → List ℕ → Ended
+ends φ d j cs ls ks bs =
     let k = getD ks j 0 in
     let o = over φ 0 (take k cs) in
+    record { limits = set ls k (min (o + d) (getD ls k 0)); bases = set bs j o }
+
+-- so the flow f; one of another interval than i stays as it is
+unfoldable pub stamp : ℕ → ℕ → ℕ → List ℕ → List ℕ → List ℕ → List ℕ → Flow → Ended
+stamp φ i j cs ls ks bs f =
     elim (eqb (f .interval) i) [
-      | true ↦ record { limits = set ls k (min (o + f .jitter) (getD ls k 0)); bases = set bs j o }
+      | true ↦ ends φ (f .jitter) j cs ls ks bs
       | false ↦ record { limits = ls; bases = bs }
     ]
 

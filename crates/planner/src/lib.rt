@@ -8,6 +8,7 @@ mod grants;
 mod groups;
 mod intervals;
 mod links;
+mod order;
 mod placed;
 mod planning;
 mod search;

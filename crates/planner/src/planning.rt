@@ -11,14 +11,16 @@ ghost use Rattle.planner.specs.Plan.{test10, planTable, planAnswer, plan
 use crate::arrays::Layout;
 use crate::grants::write_grants;
 use crate::groups::place_all;
+use crate::order::fill_order;
 use crate::placed::Placed;
 use lists::Facts;
 use refusals::Checked;
 use refusals::Refusal;
 use refusals::Written;
 
-// Test 10 and the table, for a list that the tests before it accept, in a room that is long enough.
-fn place_and_write(list: &[u8], facts: Facts, room: &mut [u8]) -> Written
+// Test 10 and the table, for a list that the tests before it accept, in a room that is long enough. The flows' frames are written in
+// bytes that the caller lends, which may hold anything before and after.
+fn place_and_write(list: &[u8], facts: Facts, frames: &mut [u8; 128], room: &mut [u8]) -> Written
     requires { ⌜ Accepted (flowsOf (now list)) × (facts ≡ factsOf (flowsOf (now list))) × (place (grants (flowsOf (now list))) ≤ length (now room)) ⌝ }
     ensures { λ r. ⌜ r ≡ answer (test10 (flowsOf (now (list .entry)))) (planTable (now (list .entry))) (length (now (room .entry))) ⌝ }
     ensures { λ _. ⌜ now (room .exit) ≡ written (test10 (flowsOf (now (list .entry)))) (planTable (now (list .entry))) (now (room .entry)) ⌝ }
@@ -29,14 +31,17 @@ fn place_and_write(list: &[u8], facts: Facts, room: &mut [u8]) -> Written
     let layout = Layout::empty();
     let mut contents = layout.contents;
     let mut limits = layout.limits;
-    let mut frames = layout.frames;
+    let mut order = layout.order;
     let mut bases = layout.bases;
+    *frames = [0u8; Layout::FLOWS];
+    let flows = fill_order(list, frame, &mut order);
     let placed = place_all(
         list,
+        &order[0..flows],
         frame,
         &mut contents,
         &mut limits,
-        &mut frames,
+        frames,
         &mut bases,
     );
     if let Placed::NoFrame(p) = placed {
@@ -46,9 +51,10 @@ fn place_and_write(list: &[u8], facts: Facts, room: &mut [u8]) -> Written
     tables::write_head(grants as u16, cycle, frame, room);
     write_grants(
         list,
+        &order[0..flows],
         frame,
         &contents[0..width],
-        &mut frames,
+        frames,
         &bases,
         &mut limits,
         room,
@@ -61,7 +67,8 @@ pub fn plan(list: &[u8], room: &mut [u8]) -> Written
     ensures { λ r. ⌜ r ≡ planAnswer (now (list .entry)) (length (now (room .entry))) ⌝ }
     ensures { λ _. ⌜ now (room .exit) ≡ planRoom (now (list .entry)) (now (room .entry)) ⌝ }
 {
-    let tests = accepting::tests_1_to_7(list);
+    let mut frames = [0u8; Layout::FLOWS];
+    let tests = accepting::tests_1_to_7(list, &mut frames);
     if let Checked::Refused(r) = tests {
         return Written::Refused(r);
     }
@@ -74,5 +81,5 @@ pub fn plan(list: &[u8], room: &mut [u8]) -> Written
     if room.len() < 8 + 5 * grants {
         return Written::Refused(Refusal::Room);
     }
-    place_and_write(list, facts, room)
+    place_and_write(list, facts, &mut frames, room)
 }

@@ -1,38 +1,17 @@
 // The search for a flow's frame.
 ghost use mathlib.Core.Path.{_≡_};
-ghost use mathlib.Core.Bool.{true};
-ghost use Prim.Native.Nat.{_+_, _*_, _≤_, _<_};
-ghost use lib.ListN.{length, getD, drop};
+ghost use Prim.Native.Nat.{ℕ, _≤_};
+ghost use lib.ListN.{length, drop};
+ghost use Rattle.placing.specs.declared.Found.the-variants.{At};
 ghost use Rattle.planner.specs.Cells.{Starts, first, stops};
 use crate::frames::Reach;
 use crate::frames::past;
 use placing::Found;
 
-// Frame k is one of the window, and with the overhang `over` it has no free slot.
-fn full(contents: &[u16], frame: u16, k: usize, over: u32) -> bool
-    requires { ⌜ over ≤ 65535 * 256 ⌝ }
-    ensures { λ r. ⌜ (r ≡ true → (k < length (now (contents .entry))) × (frame ≤ over + getD (now (contents .entry)) k 0)) ⌝ }
-{
-    if k < contents.len() {
-        frame as u32 <= over + contents[k] as u32
-    } else {
-        false
-    }
-}
-
-// The first frame that has a free slot, or the window's end; none before the given one has any.
-pub(crate) fn first_free(contents: &[u16], frame: u16, from: Reach) -> Reach
-    requires { ⌜ length (now contents) ≤ 256 ⌝ }
-    requires { ⌜ Starts frame (now contents) (from .at) (from .over) ⌝ }
-    ensures { λ r. ⌜ Starts frame (now (contents .entry)) (r .at) (r .over) ⌝ }
-{
-    let mut k = from.at;
-    let mut over = from.over;
-    while full(contents, frame, k, over) {
-        over = past(over + contents[k] as u32, frame);
-        k += 1;
-    }
-    Reach { at: k, over: over }
+// What a search finds, and the overhang that comes into the frame where it ends.
+pub struct Search {
+    pub found: Found,
+    pub over: u32,
 }
 
 // A push stops before frame k: it passes the end of the window, or the frame's limit.
@@ -46,17 +25,18 @@ fn stopped(limits: &[u16], k: usize, push: u32) -> bool
     }
 }
 
-// The first frame of the window in which `size` slots more are lawful; none before the given one has a free slot. Nothing is stored.
+// The first frame of the window in which `size` slots more are lawful; in none before the given one are they. Nothing is stored.
 pub(crate) fn first_lawful(
     contents: &[u16],
     limits: &[u16],
     frame: u16,
     size: u16,
     from: Reach,
-) -> Found
+) -> Search
     requires { ⌜ (length (now limits) ≡ length (now contents)) × (length (now contents) ≤ 256) ⌝ }
-    requires { ⌜ Starts frame (now contents) (from .at) (from .over) ⌝ }
-    ensures { λ r. ⌜ r ≡ first frame size 0 0 (now (contents .entry)) (now (limits .entry)) ⌝ }
+    requires { ⌜ Starts frame size (now contents) (now limits) (from .at) (from .over) ⌝ }
+    ensures { λ r. ⌜ r .found ≡ first frame size 0 0 (now (contents .entry)) (now (limits .entry)) ⌝ }
+    ensures { λ r. ⌜ ((k : ℕ) → r .found ≡ At k → Starts frame size (now (contents .entry)) (now (limits .entry)) k (r .over)) ⌝ }
 {
     let mut over = from.over;
     let mut k = from.at;
@@ -82,5 +62,8 @@ pub(crate) fn first_lawful(
         over = past(filled, frame);
         k += 1;
     };
-    found
+    Search {
+        found: found,
+        over: over,
+    }
 }

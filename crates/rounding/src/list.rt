@@ -14,6 +14,7 @@ use crate::tests::new_list_tests;
 use accepting::tests_1_to_5;
 use lists::count;
 use lists::flow_at;
+use pairing::BITS;
 use refusals::Checked;
 use refusals::Refusal;
 use refusals::Written;
@@ -37,7 +38,8 @@ pub fn round_list(list: &[u8], base: u64, room: &mut [u8]) -> Written
     ensures { λ r. ⌜ r ≡ roundAnswer base (now (list .entry)) (length (now (room .entry))) ⌝ }
     ensures { λ _. ⌜ now (room .exit) ≡ roundRoom base (now (list .entry)) (now (room .entry)) ⌝ }
 {
-    let old = tests_1_to_5(list);
+    let mut bits = [0u8; BITS];
+    let old = tests_1_to_5(list, &mut bits);
     if let Checked::Refused(r) = old {
         return Written::Refused(r);
     }

@@ -9,9 +9,11 @@ use borrow.Author.Tests.{le-leb, eq-eqb, ne-eqb, leb-true, eqb-true}
 use Rattle.logic.specs.Numbers.{among}
 use Rattle.logic.proofs.Tests.{by-test, and-both, both-and, among-both}
 use Rattle.refusals.specs.declared.Refusal.the-variants.{TableForm}
+use Rattle.refusals.specs.declared.Checked.the-variants.{Passed}
 use Rattle.refusals.specs.Tests.{_⟫_, unless}
+use Rattle.refusals.proofs.Chains.{both-passed, unless-passed}
 use Rattle.tables.specs.Tables.{headOf, count, place, grantsOf}
-use Rattle.tables.specs.Form.{headed, spared, formed, test11, formTests}
+use Rattle.tables.specs.Form.{headed, spared, formed, test11, test12, formTests}
 use Rattle.tables.specs.Parts.{whole, recordTests}
 
 -- ---- the head
@@ -94,3 +96,10 @@ module _ (t : List ℕ) where
   pub form-parts : formTests t ≡ (unless (whole t) TableForm ⟫ recordTests t (count t))
   unfolding formTests test11 recordTests grantsOf
   form-parts = rw (formed-parts t) (by-test (whole t) (λ e. rw e) (λ e. rw e))
+
+  -- what tests 11 and 12 leave
+  pub form-passed : formTests t ≡ Passed → Formed t × (test12 (grantsOf t) ≡ Passed)
+  unfolding formTests test11
+  form-passed e =
+      let both = both-passed (test11 t) (test12 (grantsOf t)) e in
+      (formed-is (unless-passed (formed t) TableForm (both .0)), both .1)

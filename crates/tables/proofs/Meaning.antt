@@ -2,7 +2,7 @@
 use mathlib.Core.Path.{_≡_, refl, sym, ap, ap₂, _∙_}
 use mathlib.Core.Bool.{true}
 use mathlib.Core.List.{List, [], _∷_, _++_}
-use Prim.Native.Nat.{ℕ, zero, suc, _+_, _*_, _≤_, _<_}
+use Prim.Native.Nat.{ℕ, zero, suc, _+_, _-_, _*_, _≤_, _<_}
 use native.Mathlib.Omega.{arith}
 use lib.Dec.{eqb, lit<}
 use lib.ListN.{length, getD, take, drop, length-append, length-drop, take-append-drop}
@@ -17,7 +17,7 @@ use Rattle.fields.specs.Records.{packed, valuesOf}
 use Rattle.fields.proofs.Packed.{fit-length, six-values}
 use Rattle.fields.proofs.Records.{length-packed, values-packed, values-fit, packed-front}
 use Rattle.fields.proofs.Packed.{four-values}
-use Rattle.fields.proofs.Runs.{run, entries, Again, length-run, entries-run, run-entries}
+use Rattle.fields.proofs.Runs.{run, entries, Again, length-run, drop-run, take-run, entries-run, run-entries}
 use Rattle.tables.specs.declared.packed.Grant.{Grant}
 use Rattle.tables.specs.Tables.{headFields, head, headOf, count, cycleOf, frameOf, place, valuesAt, grantWith, grantAt, spareAt, grantsFrom, grantsOf, fieldsOf, records, tableOf}
 use Rattle.tables.specs.Form.{headed, spared, formed}
@@ -184,6 +184,16 @@ module _ (t : List ℕ) (b : (i : ℕ) → getD t i 0 < 256) where
         records-run (grantsOf t)
         ∙ ap (run written) (grants-entries t 0 (count t))
         ∙ run-entries 5 written length-written grantOf (count t) (drop 8 t) (simp length-drop (omega (arith, form .all .exact))) (again 0 (count t) (omega (arith, form .all .exact)) (form .zeros))
+
+    -- the bytes from record i up to record j are the records of those grants
+    pub records-part : (i j : ℕ) → take (place j - place i) (drop (place i) t) ≡ records (take (j - i) (drop i (grantsOf t)))
+    records-part i j =
+        let gs = grantsOf t in
+        let behind : drop 8 t ≡ run written gs = sym records-again ∙ records-run gs in
+        let start : drop (place i) t ≡ run written (drop i gs) =
+        sym (drop-drop (5 * i) 8 t) ∙ ap (λ (s : List ℕ). drop (5 * i) s) behind ∙ drop-run 5 written length-written i gs in
+        let size : place j - place i ≡ 5 * (j - i) = omega arith in
+        rw (start, size, take-run 5 written length-written (j - i) (drop i gs)) (sym (records-run (take (j - i) (drop i gs))))
 
     pub table-grants : tableOf (cycleOf t) (frameOf t) (grantsOf t) ≡ t
     unfolding tableOf

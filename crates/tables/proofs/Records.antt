@@ -1,9 +1,11 @@
 -- A record of a table, read and written at its place. Assumes nothing.
 use mathlib.Core.Path.{_≡_, refl, sym}
 use mathlib.Core.List.{List, [], _∷_, _++_}
-use Prim.Native.Nat.{ℕ, _+_, _-_, _<_}
+use Prim.Native.Nat.{ℕ, _+_, _-_, _≤_, _<_}
 use native.Mathlib.Omega.{arith}
 use lib.ListN.{length, getD, take, drop, replicate, length-drop}
+use lib.Seq.{length-take-le, take-take}
+use borrow.Author.Tests.{le-leb}
 use Rattle.logic.proofs.Tests.{by-lt}
 use Rattle.logic.proofs.Indices.{length-from, entry-is}
 use Rattle.fields.specs.declared.kind.Kind.the-variants.{TableHead, TableRecord}
@@ -21,6 +23,14 @@ use Rattle.tables.specs.Tables.{headOf, count, place, valuesAt, grantAt,
 pub values-beyond : (t : List ℕ) (i : ℕ) → length t < place i + 5 → replicate 6 0 ≡ valuesAt t i
 unfolding valuesAt
 values-beyond t i h = sym (values-short TableRecord (drop (place i) t) (simp length-drop (omega arith)))
+
+-- and where it is there, its n bytes, which are five, tell its values
+pub values-there : (t : List ℕ) (i n : ℕ) → place i + 5 ≤ length t → n ≡ 5 → valuesOf TableRecord (take n (drop (place i) t)) ≡ valuesAt t i
+unfolding valuesAt valuesOf
+values-there t i n h e =
+    let s = drop (place i) t in
+    let l : 5 ≤ length s = simp length-drop (omega arith) in
+    rw (e, length-take-le 5 s l, take-take 5 5 s (omega arith), le-leb 5 (length s) l)
 
 second : (vs : List ℕ) → Fit (10 ∷ 12 ∷ 12 ∷ 6 ∷ 0 ∷ 0 ∷ []) vs → getD vs 1 0 < 4096
 second (a ∷ []) f = absurd (f .1)
@@ -64,8 +74,8 @@ module _ (g : Grant) (i : ℕ) (room : List ℕ) where
   unfolding recordStored recordAfter
   record-beyond h = ends-beyond TableRecord (place i) (fieldsOf g) room (omega arith)
 
-  pub record-part : (a : Stored) (ys : List ℕ) → let part = take (length room - place i) (drop (place i) room) in
+  pub record-part : place i + 5 ≤ length room → (n : ℕ) → n ≡ 5 → (a : Stored) (ys : List ℕ) → let part = take n (drop (place i) room) in
       a ≡ stored TableRecord (fieldsOf g) (length part) → ys ≡ roomAfter TableRecord (fieldsOf g) part
-      → (a ≡ recordStored g i (length room)) × (take (place i) room ++ (ys ++ drop (length room - place i) (drop (place i) room)) ≡ recordAfter g i room)
+      → (a ≡ recordStored g i (length room)) × (take (place i) room ++ (ys ++ drop n (drop (place i) room)) ≡ recordAfter g i room)
   unfolding recordStored recordAfter
   record-part = ends-part TableRecord (place i) (fieldsOf g) room

@@ -7,15 +7,15 @@ use native.Mathlib.Nat.{sub-zero}
 use native.Mathlib.Numerals.{add-one}
 use native.Mathlib.Omega.{arith}
 use lib.Dec.{leb}
-use lib.ListN.{length, getD, drop, length-drop}
-use borrow.Author.Tests.{le-leb, lt-leb, leb-true, leb-false, eq-eqb, ne-eqb}
+use lib.ListN.{getD}
+use borrow.Author.Tests.{le-leb, lt-leb, eq-eqb, ne-eqb}
 use Rattle.refusals.specs.declared.Refusal.the-variants.{TableForm, NotRising}
 use Rattle.refusals.specs.declared.Checked.{Checked}
 use Rattle.refusals.specs.declared.Checked.the-variants.{Passed, Refused}
 use Rattle.refusals.specs.Tests.{_⟫_, unless, lowest, against, after}
 use Rattle.refusals.proofs.Lowest.{lowest-next, lowest-here}
 use Rattle.tables.specs.declared.packed.Grant.{Grant}
-use Rattle.tables.specs.Tables.{place, valuesAt, grantAt, spareAt, grantsFrom}
+use Rattle.tables.specs.Tables.{valuesAt, grantAt, spareAt, grantsFrom}
 use Rattle.tables.specs.Form.{spared, rises, test12}
 use Rattle.tables.specs.Parts.{recordTests}
 
@@ -43,15 +43,6 @@ recordsFrom least t i n = unless (spared t i (n - i)) TableForm ⟫ lowest NotRi
 pub records-start : (t : List ℕ) (n : ℕ) → recordsFrom 0 t 0 n ≡ recordTests t n
 unfolding recordTests test12
 records-start t n = rw (sub-zero n, risings-all (grantsFrom t 0 n))
-
--- ---- whether there is a record i
-
-module _ (t : List ℕ) (i n : ℕ) (l : length t ≡ place n) where
-  pub record-there : leb 5 (length (drop (place i) t)) ≡ true → i < n
-  record-there e = let h = leb-true 5 (length (drop (place i) t)) e in omega (arith, length-drop (place i) t)
-
-  pub record-missing : leb 5 (length (drop (place i) t)) ≡ false → n ≤ i
-  record-missing e = let h = leb-false 5 (length (drop (place i) t)) e in omega (arith, length-drop (place i) t)
 
 module _ (t : List ℕ) (i n : ℕ) where
   -- ---- there is a record i

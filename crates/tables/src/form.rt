@@ -79,24 +79,19 @@ fn record_tests(table: &[u8], n: usize) -> Checked
     requires { ⌜ length (now table) ≡ place n ⌝ }
     ensures { λ r. ⌜ r ≡ recordTests (now (table .entry)) n ⌝ }
 {
-    let mut least = 0;
-    let mut i = 0;
-    loop {
-        let found = record_at(table, i);
-        if !found.whole {
-            return Checked::Passed;
-        }
-        let values = found.values;
+    let mut least: u16 = 0;
+    for i in 0..n {
+        let values = record_at(table, i);
         if values[3] != 0 {
             return Checked::Refused(Refusal::TableForm);
         }
         let start = values[1];
-        i += 1;
         if start < least {
-            return not_rising(table, i, n);
+            return not_rising(table, i + 1, n);
         }
         least = start + 1;
     }
+    Checked::Passed
 }
 
 // Tests 11 and 12, in their order.

@@ -2,12 +2,11 @@
 ghost use mathlib.Core.Path.{_≡_};
 ghost use Prim.Native.Nat.{_+_, _≤_};
 ghost use lib.Dec.{leb};
-ghost use lib.ListN.{length, drop};
+ghost use lib.ListN.{length};
 ghost use Rattle.fields.specs.declared.kind.Kind.the-variants.{TableHead, TableRecord};
-ghost use Rattle.fields.specs.Records.{reading, stored, roomAfter};
+ghost use Rattle.fields.specs.Records.{stored, roomAfter};
 ghost use Rattle.tables.specs.Tables.{headFields, headOf, count, cycleOf, frameOf, place, valuesAt, grantAt, spareAt, recordStored, recordAfter};
 use fields::Kind;
-use fields::Reading;
 use fields::Stored;
 
 // The last record whose end is within the numbers of its type.
@@ -62,14 +61,14 @@ fn holds(n: usize, i: usize) -> bool
     13 + 5 * i <= n
 }
 
-// What is found at the place of record i, counted from 0.
-pub(crate) fn record_at(table: &[u8], i: usize) -> Reading
-    requires { ⌜ place i ≤ length (now table) ⌝ }
-    ensures { λ r. ⌜ r ≡ reading TableRecord (drop (place i) (now (table .entry))) ⌝ }
+// The values of record i, counted from 0, of a table that holds it.
+pub(crate) fn record_at(table: &[u8], i: usize) -> [u16; 6]
+    requires { ⌜ place i + 5 ≤ length (now table) ⌝ }
+    ensures { λ r. ⌜ r ≡ valuesAt (now (table .entry)) i ⌝ }
 {
     let start = 8 + 5 * i;
-    let end = table.len();
-    fields::read(Kind::TableRecord, &table[start..end])
+    let found = fields::read(Kind::TableRecord, &table[start..start + 5]);
+    found.values
 }
 
 // The values of record i, counted from 0; zeros where the table has no such record.
@@ -79,8 +78,7 @@ fn values_at(table: &[u8], i: usize) -> [u16; 6]
     if !holds(table.len(), i) {
         return [0; 6];
     }
-    let found = record_at(table, i);
-    found.values
+    record_at(table, i)
 }
 
 // The grant of record i, counted from 0; zeros where the table has no such record.
@@ -116,11 +114,10 @@ pub fn write_record(g: Grant, i: usize, room: &mut [u8]) -> Stored
     ensures { λ r. ⌜ r ≡ recordStored g i (length (now (room .entry))) ⌝ }
     ensures { λ _. ⌜ now (room .exit) ≡ recordAfter g i (now (room .entry)) ⌝ }
 {
-    let end = room.len();
-    if !holds(end, i) {
+    if !holds(room.len(), i) {
         return Stored::Short;
     }
     let start = 8 + 5 * i;
     let values = [g.flow, g.start, g.late, 0, 0, 0];
-    fields::write(Kind::TableRecord, values, &mut room[start..end])
+    fields::write(Kind::TableRecord, values, &mut room[start..start + 5])
 }

@@ -2,23 +2,21 @@
 -- Assumes nothing.
 use mathlib.Core.Path.{_≡_, refl, sym, ap, _∙_}
 use mathlib.Core.List.{List, [], _∷_}
-use Prim.Native.Nat.{ℕ, suc, _-_, _*_, _≤_, _<_}
+use Prim.Native.Nat.{ℕ, suc, _-_, _≤_, _<_}
 use native.Mathlib.Nat.{sub-zero, zero-add}
 use native.Mathlib.Omega.{arith}
 use lib.ListN.{getD, take, drop}
-use lib.Seq.{drop-drop}
 use borrow.Author.Tests.{le-leb, lt-leb, lt-ltb, le-ltb}
 use denote.Ref.{RefT}
 use Rattle.logic.proofs.Tests.{by-lt}
 use Rattle.refusals.specs.declared.Refusal.{Refusal}
 use Rattle.refusals.specs.declared.Checked.the-variants.{Passed, Refused}
-use Rattle.fields.proofs.Runs.{run, drop-run, take-run}
 use Rattle.tables.specs.declared.packed.Grant.{Grant}
 use Rattle.tables.specs.Tables.{place, grantsOf, records}
 use Rattle.tables.specs.Form.{test12}
 use Rattle.windows.specs.Window.{windowTests, before, startingIn, edge, Stretch}
 use Rattle.tables.proofs.Forms.{is-formed}
-use Rattle.tables.proofs.Meaning.{written, length-written, records-run, records-again}
+use Rattle.tables.proofs.Meaning.{records-part}
 use Rattle.windows.proofs.Rising.{RisesFrom, Rises, rises-rest, rises-all}
 use Rattle.windows.proofs.Windows.{lawful, edge-passed, edge-refused}
 
@@ -87,12 +85,7 @@ module _ (t : List ℕ) (bytes : (i : ℕ) → getD t i 0 < 256) (a b : ℕ) (pa
   window-records =
       let gs = grantsOf t in
       let w = lawful t a b passed in
-      let behind : drop 8 t ≡ run written gs = sym (records-again t bytes (is-formed t (w .form))) ∙ records-run gs in
-      let start : drop (place (before a gs)) t ≡ run written (drop (before a gs) gs) =
-      sym (drop-drop (5 * before a gs) 8 t) ∙ ap (λ (s : List ℕ). drop (5 * before a gs) s) behind ∙ drop-run 5 written length-written (before a gs) gs in
-      let size : place (before b gs) - place (before a gs) ≡ 5 * (before b gs - before a gs) = omega arith in
-      rw (start, size, take-run 5 written length-written (before b gs - before a gs) (drop (before a gs) gs), window-grants a b gs (w .rising))
-      (sym (records-run (startingIn a b gs)))
+      records-part t bytes (is-formed t (w .form)) (before a gs) (before b gs) ∙ ap records (window-grants a b gs (w .rising))
 
 module _ (s : RefT (List ℕ)) (a b : ℕ) where
   -- what the contract of the window says of an answer r

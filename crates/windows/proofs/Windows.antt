@@ -9,17 +9,17 @@ use lib.ListN.{length}
 use borrow.Author.Tests.{le-leb, lt-leb, lt-ltb, le-ltb, leb-true}
 use Rattle.logic.proofs.Tests.{by-lt, and-both}
 use Rattle.refusals.specs.declared.Refusal.{Refusal}
-use Rattle.refusals.specs.declared.Refusal.the-variants.{TableForm, WindowEnds}
+use Rattle.refusals.specs.declared.Refusal.the-variants.{WindowEnds}
 use Rattle.refusals.specs.declared.Checked.{Checked}
 use Rattle.refusals.specs.declared.Checked.the-variants.{Passed, Refused}
 use Rattle.refusals.proofs.Chains.{both-passed, unless-passed}
 use Rattle.tables.specs.declared.packed.Grant.{Grant}
 use Rattle.tables.specs.Tables.{cycleOf, place, grantsOf}
-use Rattle.tables.specs.Form.{formed, test11, test12, formTests}
+use Rattle.tables.specs.Form.{test12, formTests}
 use Rattle.windows.specs.declared.stretch.Edges.the-variants.{Bytes, Refused as Stopped}
 use Rattle.windows.specs.Window.{test19, windowTests, before, edge, edgesIf, edgesOf}
 use Rattle.tables.proofs.Records.{length-grants}
-use Rattle.tables.proofs.Forms.{Formed, formed-is}
+use Rattle.tables.proofs.Forms.{Formed, form-passed}
 
 -- ---- test 19
 
@@ -53,12 +53,6 @@ before-mono a b (g ∷ gs) h =
     (λ l. rw (le-ltb (g .start) a l) zero-le)
 
 -- ---- what the tests leave
-
-pub form-passed : (t : List ℕ) → formTests t ≡ Passed → Formed t × (test12 (grantsOf t) ≡ Passed)
-unfolding formTests test11
-form-passed t e =
-    let both = both-passed (test11 t) (test12 (grantsOf t)) e in
-    (formed-is t (unless-passed (formed t) TableForm (both .0)), both .1)
 
 -- a table and a window that pass tests 11, 12 and 19
 pub record Lawful (t : List ℕ) (a b : ℕ) : Type 0 where

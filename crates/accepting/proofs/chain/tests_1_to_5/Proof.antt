@@ -26,7 +26,7 @@ number-test-requires c κs = search needs
 returns-2 : tie.Need-returns-2
 unfolding tests1to5
 returns-2 c =
-    let told = c .before in
+    let told = c .before .before in
     first-passes _ _ _ (sym (told .before .before .tests-1-to-4 .ensures) ∙ told .enum-told .given .1) (c .number-test .ensures)
 
 pub tests-1-to-5-spec : {M : Type 1} → statement M

@@ -33,7 +33,7 @@ enum-known-pairs c = search needs
 returns-2 : tie.Need-returns-2
 returns-2 c =
     let p = c .before .before .before in
-    first-passes _ _ _ (passed4 (p .before)) (first-refuses _ _ _ (sym (p .pair-tests .ensures) ∙ c .before .pairs .given .1)) ∙ sym (in-order _)
+    first-passes _ _ _ (passed4 (p .before .before)) (first-refuses _ _ _ (sym (p .pair-tests .ensures) ∙ c .before .pairs .given .1)) ∙ sym (in-order _)
 
 enum-told-2 : tie.Need-enum-told-2
 enum-told-2 c = search needs
@@ -45,7 +45,7 @@ returns-3 : tie.Need-returns-3
 returns-3 c =
     let u = c .before in
     let p = u .before .before in
-    first-passes _ _ _ (passed4 (p .before)) (first-passes _ _ _ (sym (p .pair-tests .ensures) ∙ u .enum-told2 .given .1) (c .limit-test .ensures)) ∙ sym (in-order _)
+    first-passes _ _ _ (passed4 (p .before .before)) (first-passes _ _ _ (sym (p .pair-tests .ensures) ∙ u .enum-told2 .given .1) (c .limit-test .ensures)) ∙ sym (in-order _)
 
 pub tests-1-to-7-spec : {M : Type 1} → statement M
 tests-1-to-7-spec =

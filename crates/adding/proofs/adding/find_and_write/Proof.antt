@@ -33,7 +33,7 @@ returns c =
     let r = c .before in
     let s = start r in
     let a = s .args in
-    ends-short (a .list .now) (a .table .now) (a .f) (a .list-room .now) (a .table-room .now) (s .pre) (r .roomy .result) (r .roomy .ensures) (not-true _ (c .if1 .taken))
+    ends-short (a .list .now) (a .table .now) (a .f) (a .list-room .now) (a .table-room .now) (s .pre .1) (r .roomy .result) (r .roomy .ensures) (not-true _ (c .if1 .taken))
 
 first-offset-requires : tie.Need-first-offset-requires
 first-offset-requires c κs = search needs
@@ -50,9 +50,9 @@ write-list-requires c κs =
     let r = e .before in
     let s = start r in
     let a = s .args in (
-      list-passes-4 (a .list .now) (a .table .now) (a .f) (s .pre .checked),
-      joins-keeps (a .list .now) (a .table .now) (a .f) (s .pre),
-      roomy-both (a .list .now) (a .table .now) (a .f) (a .list-room .now) (a .table-room .now) (s .pre) (r .roomy .result) (r .roomy .ensures) (fits e) .0,
+      list-passes-4 (a .list .now) (a .table .now) (a .f) (s .pre .1 .checked),
+      joins-keeps (a .list .now) (a .table .now) (a .f) (s .pre .1),
+      roomy-both (a .list .now) (a .table .now) (a .f) (a .list-room .now) (a .table-room .now) (s .pre .1) (r .roomy .result) (r .roomy .ensures) (fits e) .0,
     )
 
 write-table-requires : tie.Need-write-table-requires
@@ -62,9 +62,9 @@ write-table-requires c κs =
     let r = e .before in
     let s = start r in
     let a = s .args in (
-      (a .list .now, s .pre),
-      found-below (a .list .now) (a .table .now) (a .f) (a .list-room .now) (a .table-room .now) (s .pre) (r .roomy .result) (r .roomy .ensures) (fits e) _ (found o),
-      roomy-both (a .list .now) (a .table .now) (a .f) (a .list-room .now) (a .table-room .now) (s .pre) (r .roomy .result) (r .roomy .ensures) (fits e) .1,
+      (a .list .now, s .pre .1),
+      found-below (a .list .now) (a .table .now) (a .f) (a .list-room .now) (a .table-room .now) (s .pre .1) (r .roomy .result) (r .roomy .ensures) (fits e) _ (found o),
+      roomy-both (a .list .now) (a .table .now) (a .f) (a .list-room .now) (a .table-room .now) (s .pre .1) (r .roomy .result) (r .roomy .ensures) (fits e) .1,
     )
 
 returns-2 : tie.Need-returns-2
@@ -74,7 +74,7 @@ returns-2 c =
     let r = e .before in
     let s = start r in
     let a = s .args in
-    ends-nowhere (a .list .now) (a .table .now) (a .f) (a .list-room .now) (a .table-room .now) (s .pre) (r .roomy .result) (r .roomy .ensures) (fits e)
+    ends-nowhere (a .list .now) (a .table .now) (a .f) (a .list-room .now) (a .table-room .now) (s .pre .1) (r .roomy .result) (r .roomy .ensures) (fits e)
     (sym (c .enum-told .given .1) ∙ o .first-offset .ensures)
 
 same-length : tie.Need-same-length
@@ -92,7 +92,7 @@ returns-3 c =
     let r = e .before in
     let s = start r in
     let a = s .args in
-    ends-added (a .list .now) (a .table .now) (a .f) (a .list-room .now) (a .table-room .now) (s .pre) (r .roomy .result) (r .roomy .ensures) (fits e) _ (found o)
+    ends-added (a .list .now) (a .table .now) (a .f) (a .list-room .now) (a .table-room .now) (s .pre .1) (r .roomy .result) (r .roomy .ensures) (fits e) _ (found o)
     _ _ (l .write-list .ensures) (t .write-table .ensures)
 
 pub find-and-write-spec : {M : Type 1} → statement M

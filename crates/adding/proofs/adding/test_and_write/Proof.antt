@@ -1,15 +1,13 @@
 -- `adding::adding::test_and_write` meets its contract.
 -- Assumes nothing.
 use mathlib.Core.Path.{sym, _∙_}
-use Rattle.adding.proofs.Answering.{list-passes, new-kept, ends-new}
+use Rattle.adding.proofs.Answering.{new-kept, ends-new}
 use borrow.Author.Needs.{needs}
 use Rattle.adding.proofs.adding.test_and_write.Statement.{statement}
 use Rattle.adding.proofs.adding.test_and_write.Tie as tie
 
 later-tests-requires : tie.Need-later-tests-requires
-later-tests-requires c κs =
-    let s = c .before .before .before .before in
-    list-passes (s .args .list .now) (s .args .table .now) (s .args .f) (s .pre .0)
+later-tests-requires c κs = c .before .before .before .before .pre .1
 
 enum-known-later : tie.Need-enum-known-later
 enum-known-later c = search needs
@@ -20,8 +18,8 @@ returns c =
     let n = k .before .before in
     let s = n .before .before .before .before .before in
     let a = s .args in
-    ends-new (a .list .now) (a .table .now) (a .f) (a .list-room .now) (a .table-room .now) _ (s .pre .0)
-    (new-kept (a .list .now) (a .table .now) (a .f) (s .pre .0) (s .pre .1) (s .pre .2) ∙ sym (n .later-tests .ensures) ∙ k .later .given .1)
+    ends-new (a .list .now) (a .table .now) (a .f) (a .list-room .now) (a .table-room .now) _ (s .pre .1)
+    (new-kept (a .list .now) (a .table .now) (a .f) (s .pre .1) (s .pre .2) (s .pre .3) ∙ sym (n .later-tests .ensures) ∙ k .later .given .1)
 
 enum-told : tie.Need-enum-told
 enum-told c = search needs
@@ -31,11 +29,13 @@ find-and-write-requires c κs =
     let e = c .before .before in
     let n = e .before .before in
     let s = n .before .before .before .before .before in
-    let a = s .args in
-    record {
-      checked = s .pre .0;
-      new = new-kept (a .list .now) (a .table .now) (a .f) (s .pre .0) (s .pre .1) (s .pre .2) ∙ sym (n .later-tests .ensures) ∙ e .enum-told .given .1;
-    }
+    let a = s .args in (
+      s .pre .0,
+      record {
+        checked = s .pre .1;
+        new = new-kept (a .list .now) (a .table .now) (a .f) (s .pre .1) (s .pre .2) (s .pre .3) ∙ sym (n .later-tests .ensures) ∙ e .enum-told .given .1;
+      },
+    )
 
 same-length : tie.Need-same-length
 same-length c = search needs

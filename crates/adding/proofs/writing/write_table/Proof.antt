@@ -31,9 +31,10 @@ write-head-requires c κs = search needs
 
 write-grants-requires : tie.Need-write-grants-requires
 write-grants-requires c κs =
-    let n = c .before .before .before .before .before .before .before in
+    let h = c .before .before .before in
+    let n = h .before .before .before .before in
     let s = n .before .before .before in
-    (s .pre .0, s .pre .1, n .new-count .ensures .0)
+    (s .pre .0, s .pre .1, n .new-count .ensures .0, omega (arith, s .pre .2, n .new-count .ensures .0, h .write-head .kept .1 .1 .1 .0))
 
 same-length : tie.Need-same-length
 same-length c = search needs

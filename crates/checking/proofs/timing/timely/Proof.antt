@@ -1,24 +1,23 @@
 -- `checking::timing::timely` meets its contract.
 -- Assumes nothing.
-use mathlib.Core.Path.{sym, ap, _∙_}
+use mathlib.Core.Path.{ap, _∙_}
 use Prim.Native.Nat.{ℕ}
-use native.Mathlib.Omega.{arith}
 use borrow.Author.Needs.{needs}
-use Rattle.flows.specs.declared.flow.Flow.{Flow}
-use Rattle.law.specs.Check.{nominal, last, steps}
-use Rattle.law.proofs.Times.{timely-is, not-timely}
+use Rattle.checking.specs.Parts.{stepsFrom}
+use Rattle.checking.proofs.Steps.{over-jitter, over-start, on-time}
+use native.Mathlib.Omega.{arith}
 use Rattle.checking.proofs.timing.timely.Statement.{statement}
 use Rattle.checking.proofs.timing.timely.Tie as tie
 
 returns : tie.Need-returns
 returns c =
-    let a = c .before .before .before .args in
-    λ fs seen l q. not-timely 0 fs seen (a .g) (λ p. omega (arith, p .0, c .if1 .taken, ap (λ (x : Flow). x .jitter) l))
+    let a = c .before .args in
+    over-jitter (a .jitter) (a .interval) (a .stamp) (a .start) (a .late) (omega (arith, c .if1 .taken))
 
 returns-2 : tie.Need-returns-2
 returns-2 c =
-    let a = c .before .before .before .before .before .args in
-    λ fs seen l q. not-timely 0 fs seen (a .g) (λ p. omega (arith, p .1, c .if2 .taken))
+    let a = c .before .before .args in
+    over-start (a .jitter) (a .interval) (a .stamp) (a .start) (a .late) (omega (arith, c .before .if1 .left)) (omega (arith, c .if2 .taken))
 
 nominal-requires : tie.Need-nominal-requires
 nominal-requires c κs = search needs
@@ -28,16 +27,11 @@ steps-requires c κs = search needs
 
 returns-3 : tie.Need-returns-3
 returns-3 c =
-    let t = c .before in
-    let b = t .before in
-    let e = b .before .before in
-    let a = e .before .before .before .args in
-    λ fs seen l q.
-    let o = last 0 (a .g .flow) seen in
-    c .steps .ensures o q
-    ∙ ap (λ (n : ℕ). steps (a .f .interval) o n) (t .nominal .ensures)
-    ∙ ap (λ (x : Flow). steps (x .interval) o (nominal 0 (a .g))) l
-    ∙ sym (timely-is 0 fs seen (a .g) (omega (arith, e .if1 .left, ap (λ (x : Flow). x .jitter) l), omega (arith, b .if2 .left)))
+    let n = c .before in
+    let a = n .before .before .before .args in
+    c .steps .ensures
+    ∙ ap (λ (t : ℕ). stepsFrom (a .interval) (a .stamp) t) (n .nominal .ensures)
+    ∙ on-time (a .jitter) (a .interval) (a .stamp) (a .start) (a .late) (omega (arith, n .before .before .if1 .left)) (omega (arith, n .before .if2 .left))
 
 pub timely-spec : {M : Type 1} → statement M
 timely-spec = tie.close (tie.spec returns returns-2 nominal-requires steps-requires returns-3)

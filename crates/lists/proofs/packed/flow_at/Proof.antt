@@ -1,10 +1,11 @@
 -- `lists::packed::flow_at` meets its contract.
 -- Assumes nothing.
-use mathlib.Core.Path.{ap, _∙_}
-use Prim.Native.Nat.{_+_, _≤_}
+use mathlib.Core.Path.{_≡_, ap, _∙_}
+use Prim.Native.Nat.{_+_, _-_, _≤_}
 use native.Mathlib.Omega.{arith}
-use lib.ListN.{length}
+use lib.ListN.{length, take, drop}
 use borrow.Author.Needs.{needs}
+use Rattle.fields.specs.declared.kind.Kind.the-variants.{ListRecord}
 use Rattle.fields.specs.declared.record.Reading.{Reading}
 use Rattle.fields.specs.Records.{reading}
 use Rattle.flows.specs.Flows.{flowWith, flowOf}
@@ -63,7 +64,9 @@ returns-2 : tie.Need-returns-2
 unfolding flowOf reading
 returns-2 c =
     let a = c .before .before .before .before .before .before .args in
-    ap (λ (found : Reading). flowWith (found .values)) (c .before .read .ensures) ∙ flow-part (a .list .now) (a .i)
+    let l = a .list .now in
+    let found : c .before .read .result ≡ reading ListRecord (take (length l - place (a .i)) (drop (place (a .i)) l)) = c .before .read .ensures in
+    ap (λ (r : Reading). flowWith (r .values)) found ∙ flow-part l (a .i)
 
 pub flow-at-spec : {M : Type 1} → statement M
 flow-at-spec =

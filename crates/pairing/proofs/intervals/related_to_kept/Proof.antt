@@ -5,33 +5,38 @@ use mathlib.Core.Bool.{true}
 use Prim.Native.Nat.{ℕ, _-_, _<_}
 use native.Mathlib.Omega.{arith}
 use lib.ListN.{getD}
-use borrow.Author.Tests.{not-false}
+use borrow.Author.Tests.{not-true, not-false}
 use borrow.Author.Needs.{needs}
-use Rattle.logic.proofs.Tests.{by-eq, true-not-false}
-use Rattle.lists.specs.Facts.{related}
+use Rattle.logic.proofs.Tests.{by-eq}
+use Rattle.pairing.specs.Parts.{agreesWithCell}
+use Rattle.pairing.proofs.Keeping.{every-cell, cell-differs}
 use Rattle.pairing.proofs.intervals.related_to_kept.Statement.{statement}
 use Rattle.pairing.proofs.intervals.related_to_kept.Tie as tie
 
 abbrev Inv-loop : tie.InvT-loop
-Inv-loop kept k x j₀ j = (i : ℕ) → i < j → related (getD kept i 0) x ≡ true
+Inv-loop kept x j₀ j-end j = (i : ℕ) → i < j → agreesWithCell x (getD kept i 0) ≡ true
 
 abbrev μ-loop : tie.MeasureT-loop
-μ-loop kept k x j₀ j = k - j
+μ-loop kept x j₀ j-end j = j-end - j
 
 loop-holds : tie.Need-loop-holds Inv-loop μ-loop
 loop-holds c = λ i h. absurd (omega arith)
 
-mul-related : tie.Need-mul-related Inv-loop μ-loop
-mul-related c = search needs
+mul-agrees-with-cell : tie.Need-mul-agrees-with-cell Inv-loop μ-loop
+mul-agrees-with-cell c = search needs
 
-shared-slice-read-related : tie.Need-shared-slice-read-related Inv-loop μ-loop
-shared-slice-read-related c = search needs
+shared-slice-read-agrees-with-cell : tie.Need-shared-slice-read-agrees-with-cell Inv-loop μ-loop
+shared-slice-read-agrees-with-cell c = search needs
 
-related-requires : tie.Need-related-requires Inv-loop μ-loop
-related-requires c κs = search needs
+agrees-with-cell-requires : tie.Need-agrees-with-cell-requires Inv-loop μ-loop
+agrees-with-cell-requires c κs = search needs
 
 returns : tie.Need-returns Inv-loop μ-loop
-returns c = λ t. true-not-false (sym t)
+returns c =
+    let g = c .before in
+    let v = g .before .before .before .loop in
+    let a = g .before .before .before .before .before .args in
+    sym (cell-differs (a .kept .now) (a .x) (v .j) (omega arith) (sym (g .agrees-with-cell .ensures) ∙ not-true _ (c .if1 .taken)))
 
 add-j : tie.Need-add-j Inv-loop μ-loop
 add-j c = search needs
@@ -42,10 +47,12 @@ loop-less c = search needs
 loop-again : tie.Need-loop-again Inv-loop μ-loop
 loop-again c =
     let v = c .before .before .before .before .loop in
-    λ i h. by-eq i (v .j) (λ e. rw e (sym (c .before .related .ensures) ∙ not-false _ (c .if1 .left))) (λ n. v .inv i (omega arith))
+    λ i h. by-eq i (v .j) (λ e. rw e (sym (c .before .agrees-with-cell .ensures) ∙ not-false _ (c .if1 .left))) (λ n. v .inv i (omega arith))
 
 returns-2 : tie.Need-returns-2 Inv-loop μ-loop
-returns-2 c = λ t j h. c .before .loop .inv j (omega arith)
+returns-2 c =
+    let a = c .before .before .before .args in
+    sym (every-cell (a .kept .now) (a .x) (λ j h. c .before .loop .inv j (omega arith)))
 
 pub related-to-kept-spec : {M : Type 1} → statement M
 related-to-kept-spec =
@@ -54,9 +61,9 @@ related-to-kept-spec =
     Inv-loop
     μ-loop
     loop-holds
-    mul-related
-    shared-slice-read-related
-    related-requires
+    mul-agrees-with-cell
+    shared-slice-read-agrees-with-cell
+    agrees-with-cell-requires
     returns
     add-j
     loop-less

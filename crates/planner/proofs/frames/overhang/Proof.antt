@@ -5,7 +5,7 @@ use Prim.Native.Nat.{_-_, _≤_, _<_}
 use native.Mathlib.Omega.{arith}
 use lib.ListN.{getD}
 use Rattle.planner.specs.Cells.{Reached}
-use Rattle.planner.proofs.Starts.{starts-front, reached-next}
+use Rattle.planner.proofs.Starts.{reached-front, reached-next}
 use borrow.Author.Needs.{needs}
 use Rattle.planner.proofs.frames.overhang.Statement.{statement}
 use Rattle.planner.proofs.frames.overhang.Tie as tie
@@ -26,7 +26,7 @@ loop-holds c =
     let s = c .before .before .before in
     ⊎-elim
     (λ u. (omega (arith, u .0 .taken, u .2), rw (u .1, u .2) (s .pre .1)))
-    (λ u. (omega (arith, u .2), rw (u .1, u .2) (starts-front (s .args .frame) (s .args .contents .now) .0)))
+    (λ u. (omega (arith, u .2), rw (u .1, u .2) (reached-front (s .args .frame) (s .args .contents .now))))
     (c .if1 .came)
 
 mul-past : tie.Need-mul-past Inv-loop μ-loop

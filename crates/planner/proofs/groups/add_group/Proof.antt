@@ -1,10 +1,11 @@
 -- `planner::groups::add_group` meets its contract. Assumes nothing.
 use mathlib.Core.Path.{_≡_, sym, _∙_}
-use Prim.Native.Nat.{_*_, _/_, _≤_, _<_}
+use Prim.Native.Nat.{ℕ, _*_, _≤_, _<_}
 use native.Mathlib.Omega.{arith}
 use lib.ListN.{length}
 use Rattle.lists.proofs.Records.{length-flows}
 use Rattle.lists.specs.Lists.{flowsOf}
+use Rattle.planner.specs.Order.{Group}
 use Rattle.planner.proofs.Grouping.{no-frame-not-lawful}
 use Rattle.planner.proofs.Closing.{Leaves, left-inside, left-low, added-refused, added-all}
 use Rattle.planner.proofs.Growing.{narrow}
@@ -17,11 +18,11 @@ use Rattle.planner.proofs.groups.add_group.Tie as tie
 window : (c : tie.Start) → let a = c .args in (0 < a .width) × (a .width ≤ length (a .contents .now)) × (length (a .limits .now) ≡ length (a .contents .now))
     × (length (a .contents .now) ≤ 256) × (length (a .contents .now) * a .frame < 65536)
 window c =
-    let o = c .pre .1 .2 in
+    let o = c .pre .1 .2 .2 in
     (o .some, narrow (o .times) (c .args .width) (length (c .args .contents .now)) (o .whole) (o .positive), o .same, o .most, omega (arith, o .slots, o .low))
 
 abbrev start : tie.After-place-group → tie.Start
-start c = c .before .before .before .before .before .before .before .before .before .before .before .before .before .before .before .before .before
+start c = c .before .before .before .before .before .before .before .before .before .before .before .before .before .before .before .before .before .before
 
 abbrev group : tie.After-settle-group → tie.After-place-group
 group c = c .before .before .before .before .before .before .before .before .before .before .before
@@ -31,30 +32,30 @@ kept : (c : tie.After-place-group) → (length (c .place-group .last .1 .1 .1 .0
 kept c = (c .place-group .kept .1 .1 .1 .0 ∙ c .before .before .before .before .before .before .before .before .before .before .repeat .kept .0, c .before .before .before .before .before .before .repeat2 .kept .0)
 
 -- what the placed group leaves
-leaves : (c : tie.After-place-group) → let a = start c .args in Leaves (a .frame) (a .interval) (a .width) (flowsOf (a .list .now)) (a .contents .now) (a .limits .now) (a .frames .now) (a .bases .now)
+leaves : (c : tie.After-place-group) (n : ℕ) → let a = start c .args in Group (a .list .now) (a .group .now) n → Leaves (a .frame) n (a .width) (flowsOf (a .list .now)) (a .contents .now) (a .limits .now) (a .frames .now) (a .bases .now)
     (c .before .before .before .before .before .before .before .before .before .before .repeat .last .0) (c .before .before .before .before .before .before .repeat2 .last .0) (c .place-group .last .1 .1 .1 .0) (c .place-group .last .1 .1 .1 .1 .1 .0) (c .place-group .result)
-leaves c =
+leaves c n g =
     record {
       many = omega (arith, length-flows (start c .args .list .now));
       many′ = omega (arith, length-flows (start c .args .list .now));
       copied = c .before .before .before .before .before .before .before .before .before .before .repeat .ensures;
       copied′ = c .before .before .before .before .before .before .repeat2 .ensures;
-      laid = c .place-group .ensures;
+      laid = c .place-group .ensures n g;
     }
 
 repeat-requires : tie.Need-repeat-requires
-repeat-requires c κs = let w = window (c .before .before .before .before .before .before) in (w .0, w .1)
+repeat-requires c κs = let w = window (c .before .before .before .before .before .before .before) in (w .0, w .1)
 
 repeat-requires-2 : tie.Need-repeat-requires-2
-repeat-requires-2 c κs = let w = window (c .before .before .before .before .before .before .before .before .before .before) in (w .0, omega arith)
+repeat-requires-2 c κs = let w = window (c .before .before .before .before .before .before .before .before .before .before .before) in (w .0, omega arith)
 
 place-group-requires : tie.Need-place-group-requires
 place-group-requires c κs =
-    let s = c .before .before .before .before .before .before .before .before .before .before .before .before .before .before .before .before in
+    let s = c .before .before .before .before .before .before .before .before .before .before .before .before .before .before .before .before .before in
     let w = window s in
     let k = c .before .before .before .before .before .before .before .before .before .repeat .kept .0 in
     let l = c .before .before .before .before .before .repeat2 .kept .0 in
-    (s .pre .0 .0, (l ∙ w .2 ∙ sym k, rw k (w .3), rw k (w .4)))
+    ((s .pre .0 .0, (s .pre .1 .0, s .pre .1 .1)), (l ∙ w .2 ∙ sym k, rw k (w .3), rw k (w .4)))
 
 enum-known-placed : tie.Need-enum-known-placed
 enum-known-placed c = c .match .keys1
@@ -71,7 +72,7 @@ same-length-3 c = c .before .before .before .before .before .before .before .pla
 returns : tie.Need-returns
 returns c =
     let g = c .before .before .before .before .before .before .before in
-    (added-refused (leaves g) (c .before .placed .given .0 .0) _ _ _ (c .before .placed .given .1), no-frame-not-lawful)
+    ((λ n e. added-refused (leaves g n e) (c .before .placed .given .0 .0) _ _ _ (c .before .placed .given .1)), λ n e o. no-frame-not-lawful)
 
 enum-told : tie.Need-enum-told
 enum-told c = c .match .keys2
@@ -82,15 +83,17 @@ settle-group-requires c κs =
     let s = start g in
     let a = s .args in
     let w = window s in
-    let r = s .pre .1 in
+    let n = s .pre .1 .0 in
+    let r = s .pre .1 .2 in
+    let L = leaves g n (s .pre .1 .1) in
     let all = c .before .before .before .before .enum-told .given .1 in
     let k = kept g in (
       (rw (g .place-group .kept .1 .1 .1 .1 .1 .0) (s .pre .0 .0), s .pre .0 .1),
       (
         (k .1 ∙ w .2 ∙ sym (k .0), rw (k .0) (w .3)),
         (
-          (λ i h e. rw (k .0) (inside-at (a .list .now) (a .interval) (length (a .contents .now)) (g .place-group .last .1 .1 .1 .1 .1 .0) (left-inside (leaves g) (r .0) (r .1) (r .2) all) i h e)),
-          left-low (leaves g) (r .0) (r .1) (r .2) all,
+          (n, s .pre .1 .1, λ i h e. rw (k .0) (inside-at (a .list .now) n (length (a .contents .now)) (g .place-group .last .1 .1 .1 .1 .1 .0) (left-inside L (r .0) (r .1) (r .2) all) i h e)),
+          left-low L (r .0) (r .1) (r .2) all,
         ),
       ),
     )
@@ -112,10 +115,9 @@ returns-2 c =
     let e = c .before .before .before .before in
     let g = group e in
     let a = start g .args in
-    let r = start g .pre .1 in
     let all = e .before .before .before .before .before .enum-told .given .1 in (
-      added-all (leaves g) (e .settle-group .last .1 .1 .1 .1 .0) (e .settle-group .last .1 .1 .1 .1 .1 .1 .0) all (e .settle-group .ensures),
-      λ z. taken (a .list .now) (a .frame) (a .interval) (a .interval / a .frame) _ _ _ _ _ _ (g .place-group .ensures) (rw (r .2 .frames) at (left-inside (leaves g) (r .0) (r .1) (r .2) all)),
+      (λ n m. added-all (leaves g n m) (e .settle-group .last .1 .1 .1 .1 .0) (e .settle-group .last .1 .1 .1 .1 .1 .1 .0) all (e .settle-group .ensures n m)),
+      λ n m r z. taken (a .list .now) (a .frame) n (length (a .contents .now)) _ _ _ _ _ _ (g .place-group .ensures n m) (left-inside (leaves g n m) (r .0) (r .1) (r .2) all),
     )
 
 pub add-group-spec : {M : Type 1} → statement M

@@ -14,7 +14,7 @@ use Rattle.planner.proofs.planning.plan.Statement.{statement}
 use Rattle.planner.proofs.planning.plan.Tie as tie
 
 abbrev start : tie.After-facts-of → tie.Start
-start c = c .before .before .before .before .before .before
+start c = c .before .before .before .before .before .before .before
 
 passed : (c : tie.After-facts-of) → tests1to7 (start c .args .list .now) ≡ Passed
 passed c = sym (c .before .before .before .tests-1-to-7 .ensures) ∙ c .before .enum-told .given .1
@@ -34,7 +34,7 @@ enum-known-tests c = search needs
 returns : tie.Need-returns
 returns c =
     let t = c .before .before .before in
-    let a = t .before .before .before .args in
+    let a = t .before .before .before .before .args in
     plan-refused (a .list .now) (a .room .now) (c .before .tests .given .0 .0) (sym (t .tests-1-to-7 .ensures) ∙ c .before .tests .given .1)
 
 enum-told : tie.Need-enum-told
@@ -66,8 +66,8 @@ returns-3 c =
 
 place-and-write-requires : tie.Need-place-and-write-requires
 place-and-write-requires c κs =
-    let f = c .before .before .before .before .before in
-    (ok f, f .facts-of .ensures, omega (arith, facts f .2, c .before .if2 .left))
+    let f = c .before .before .before .before .before .before in
+    (ok f, f .facts-of .ensures, omega (arith, facts f .2, c .before .before .if2 .left))
 
 same-length : tie.Need-same-length
 same-length c = search needs
@@ -75,10 +75,10 @@ same-length c = search needs
 returns-4 : tie.Need-returns-4
 returns-4 c =
     let w = c .before .before in
-    let e = w .before .before in
+    let e = w .before .before .before in
     let f = e .before .before .before .before in
     let a = start f .args in
-    plan-rest (a .list .now) (a .room .now) (passed f) (omega (arith, facts f, e .before .if1 .left)) (w .place-and-write .result) (w .place-and-write .last .1 .1 .0) (omega (arith, facts f .2, e .if2 .left))
+    plan-rest (a .list .now) (a .room .now) (passed f) (omega (arith, facts f, e .before .if1 .left)) (w .place-and-write .result) (w .place-and-write .last .1 .1 .1 .0) (omega (arith, facts f .2, e .if2 .left))
     (w .place-and-write .ensures .0) (w .place-and-write .ensures .1)
 
 pub plan-spec : {M : Type 1} → statement M

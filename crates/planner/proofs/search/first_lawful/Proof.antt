@@ -1,13 +1,13 @@
 -- `planner::search::first_lawful` meets its contract. Assumes nothing.
 use mathlib.Core.Path.{_≡_, sym, _∙_}
-use Prim.Native.Nat.{_+_, _-_, _*_, _≤_, _<_}
+use Prim.Native.Nat.{ℕ, _+_, _-_, _*_, _≤_, _<_}
 use native.Mathlib.Omega.{arith}
 use lib.ListN.{length, drop, getD}
 use mathlib.Core.Bool.{false}
 use mathlib.Core.Logic.{⊎-elim}
-use Rattle.planner.specs.Cells.{runs, opens, first}
-use Rattle.planner.proofs.Runs.{carried, runs-out, runs-stop, runs-on, stops-in, opens-full, opens-room, first-here, first-later, first-none}
-use Rattle.planner.proofs.Starts.{first-from}
+use Rattle.planner.specs.Cells.{runs, opens, Starts}
+use Rattle.planner.proofs.Runs.{carried, runs-out, runs-stop, runs-on, stops-in, opens-full, opens-room, first-here, first-none}
+use Rattle.planner.proofs.Starts.{first-from, starts-next}
 use borrow.Author.Needs.{needs}
 use Rattle.planner.proofs.search.first_lawful.Statement.{statement}
 use Rattle.planner.proofs.search.first_lawful.Tie as tie
@@ -20,8 +20,7 @@ abbrev μ-loop : tie.MeasureT-loop
 μ-loop contents limits frame size over k filled push₀ next₀ push next = length contents - next
 
 abbrev Inv-frames : tie.InvT-frames
-Inv-frames contents limits frame size over₀ k₀ over k =
-    (k ≤ length contents) × (over ≤ 65535 * k) × (first frame size k over (drop k contents) (drop k limits) ≡ first frame size 0 0 contents limits)
+Inv-frames contents limits frame size over₀ k₀ over k = Starts frame size contents limits k over
 
 abbrev μ-frames : tie.MeasureT-frames
 μ-frames contents limits frame size over₀ k₀ over k = length contents - k
@@ -41,10 +40,7 @@ pushed : (c : tie.After-shared-slice-known4 Inv-loop μ-loop Inv-frames μ-frame
 pushed c = omega (arith, c .shared-slice-known4 .given (c .before .before .before .before .loop .next))
 
 frames-holds : tie.Need-frames-holds Inv-loop μ-loop Inv-frames μ-frames
-frames-holds c =
-    let s = c .before .before in
-    let a = s .args in
-    (s .pre .1 .0 .0, s .pre .1 .0 .1, first-from (a .frame) (a .contents .now) (a .limits .now) (s .pre .0 .0) (a .from .at) (a .from .over) (s .pre .1) (a .size))
+frames-holds c = c .before .before .pre .1
 
 mul-filled : tie.Need-mul-filled Inv-loop μ-loop Inv-frames μ-frames
 mul-filled c = search needs
@@ -141,18 +137,19 @@ frames-again c =
     ⊎-elim
     (λ u. sym (u .2 .inv .2) ∙ runs-stop cs ls same (a .frame) (u .2 .next) (u .2 .push) (u .3 .left) (sym (u .4 .ensures) ∙ u .5 .taken))
     (λ u. opens-full cs ls same (a .frame) k h (a .size) (p .frames .over) (u .left))
-    (j .if2 .came) in (
-      omega arith,
-      rw (c .past3 .ensures) (carried (a .frame) (p .frames .over) k (getD cs k 0) (p .frames .inv .1) (cell (j .before))),
-      rw (c .past3 .ensures) (sym (first-later cs ls same (a .frame) k h (a .size) (p .frames .over) k shut) ∙ p .frames .inv .2),
-    )
+    (j .if2 .came) in
+    starts-next (a .frame) cs ls (a .size) k (p .frames .over) (p .frames .inv) h shut _ (cell (j .before)) (c .past3 .ensures)
 
 returns : tie.Need-returns Inv-loop μ-loop Inv-frames μ-frames
 returns c =
     let p = c .before in
     let s = p .before .before .before in
     let a = s .args in
-    sym (first-none (a .contents .now) (a .limits .now) (s .pre .0 .0) (a .frame) (p .frames .k) (a .size) (p .frames .over) (p .frames .k) (c .if1 .taken)) ∙ p .frames .inv .2
+    let same = s .pre .0 .0 in (
+      sym (first-none (a .contents .now) (a .limits .now) same (a .frame) (p .frames .k) (a .size) (p .frames .over) (p .frames .k) (c .if1 .taken))
+          ∙ first-from (a .frame) (a .contents .now) (a .limits .now) (a .size) (p .frames .k) (p .frames .over) (p .frames .inv) same,
+      λ k e. let z : _≡_ {A = ℕ} 0 1 = cc in absurd (omega arith),
+    )
 
 returns-2 : tie.Need-returns-2 Inv-loop μ-loop Inv-frames μ-frames
 returns-2 c =
@@ -160,9 +157,12 @@ returns-2 c =
     let p = c .before .before .before .before .before .before in
     let s = p .before .before .before in
     let a = s .args in
-    sym (first-here (a .contents .now) (a .limits .now) (s .pre .0 .0) (a .frame) (p .frames .k) (c .before .before .before .before .before .if1 .left) (a .size) (p .frames .over) (p .frames .k)
-    (sym (v .inv .2) ∙ runs-out (a .frame) (v .push) (drop (v .next) (a .contents .now)) (drop (v .next) (a .limits .now)) (c .if3 .taken)))
-    ∙ p .frames .inv .2
+    let same = s .pre .0 .0 in (
+      sym (first-here (a .contents .now) (a .limits .now) same (a .frame) (p .frames .k) (c .before .before .before .before .before .if1 .left) (a .size) (p .frames .over) (p .frames .k)
+          (sym (v .inv .2) ∙ runs-out (a .frame) (v .push) (drop (v .next) (a .contents .now)) (drop (v .next) (a .limits .now)) (c .if3 .taken)))
+          ∙ first-from (a .frame) (a .contents .now) (a .limits .now) (a .size) (p .frames .k) (p .frames .over) (p .frames .inv) same,
+      λ k e. let q : p .frames .k ≡ k = cc in rw (sym q) (p .frames .inv),
+    )
 
 pub first-lawful-spec : {M : Type 1} → statement M
 first-lawful-spec =

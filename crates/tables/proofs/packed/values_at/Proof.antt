@@ -1,14 +1,7 @@
 -- `tables::packed::values_at` meets its contract.
 -- Assumes nothing.
-use mathlib.Core.Path.{ap}
-use Prim.Native.Nat.{_+_, _≤_}
-use native.Mathlib.Omega.{arith}
-use lib.ListN.{length}
 use borrow.Author.Needs.{needs}
 use Rattle.logic.proofs.Tests.{not-above, above}
-use Rattle.fields.specs.declared.record.Reading.{Reading}
-use Rattle.fields.specs.Records.{reading}
-use Rattle.tables.specs.Tables.{place, valuesAt}
 use Rattle.tables.proofs.Records.{values-beyond}
 use Rattle.tables.proofs.packed.values_at.Statement.{statement}
 use Rattle.tables.proofs.packed.values_at.Tie as tie
@@ -23,14 +16,10 @@ returns c =
     values-beyond (a .table .now) (a .i) (above _ _ _ (h .ensures) (c .if1 .taken))
 
 record-at-requires : tie.Need-record-at-requires
-record-at-requires c κs =
-    let a = c .before .before .before .args in
-    let there : place (a .i) + 5 ≤ length (a .table .now) = not-above _ _ _ (c .before .holds .ensures) (c .if1 .left) in
-    omega (arith, there)
+record-at-requires c κs = not-above _ _ _ (c .before .holds .ensures) (c .if1 .left)
 
 returns-2 : tie.Need-returns-2
-unfolding reading valuesAt
-returns-2 c = ap (λ (found : Reading). found .values) (c .before .record-at .ensures)
+returns-2 c = search needs
 
 pub values-at-spec : {M : Type 1} → statement M
 values-at-spec = tie.close (tie.spec holds-requires returns record-at-requires returns-2)
