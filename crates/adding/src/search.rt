@@ -21,7 +21,7 @@ use tables::Grant;
 const BYTES: usize = 512;
 
 // The offset that the new flow gets.
-#[derive(Drop)]
+#[derive(Clone, Copy)]
 pub enum First {
     At(u64),
     Nowhere,

@@ -16,7 +16,7 @@ use refusals::{Checked, Refusal};
 use tables::Grant;
 
 // What the walk has seen: the table record, counted from 1, of the first fault of tests 14, 16, 17 and 18, or 0 where there is none, and the slot behind the last grant.
-#[derive(Drop)]
+#[derive(Clone, Copy)]
 pub struct Seen {
     pub unknown: usize,
     pub timing: usize,

@@ -11,7 +11,7 @@ use settings::{Call, Said};
 const UPSTREAM: u8 = 24;
 
 // An encoding where it stands in a run: what it asks for, and the place behind it.
-#[derive(Drop)]
+#[derive(Clone, Copy)]
 pub struct EncodingAt {
     pub call: Call,
     pub end: usize,
@@ -42,7 +42,7 @@ pub(crate) fn encoding_at(run: &[u8], at: usize) -> EncodingAt
 }
 
 // What is asked of each of the four: that it is neither repeated nor of wrong length, or that it is not missing.
-#[derive(Drop)]
+#[derive(Clone, Copy)]
 pub enum Question {
     Good,
     Present,

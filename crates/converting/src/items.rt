@@ -3,7 +3,7 @@ ghost use Rattle.std.specs.Prelude.{◌<◌, length};
 ghost use Rattle.converting.specs.Parts.{Stands};
 
 // What stands at a place of a run: an item, by its type and the place behind its value, or a broken one.
-#[derive(Drop)]
+#[derive(Clone, Copy)]
 pub enum ItemAt {
     Holds(u8, usize),
     Broken,

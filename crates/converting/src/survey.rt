@@ -11,7 +11,7 @@ use lists::few;
 use refusals::{Checked, Refusal, noted};
 
 // What looking through a run finds: how many flows it asks for where it passes, or the first refusal.
-#[derive(Drop)]
+#[derive(Clone, Copy)]
 pub enum Survey {
     Flows(usize),
     Refused(Refusal),

@@ -1,6 +1,8 @@
 // What a list's flows say together, worked out: cycle, frame, grants and load.
 //
 // No public function asks anything of its caller.
+#![tactic(auto)]
+
 ghost use Rattle.std.specs.Prelude.{◌≡◌, ◌<◌, max, min};
 ghost use Rattle.lists.specs.Lists.{flows_of};
 ghost use Rattle.lists.specs.Facts.{occupies, facts_of};
@@ -10,14 +12,14 @@ use flows::{Flow, times};
 use lists::{Facts, count, flow_at};
 
 // The largest and the smallest interval.
-#[derive(Drop)]
+#[derive(Clone, Copy)]
 pub struct Span {
     pub cycle: u16,
     pub frame: u16,
 }
 
 // The grants in a cycle and the slots that they take.
-#[derive(Drop)]
+#[derive(Clone, Copy)]
 pub struct Totals {
     pub grants: u64,
     pub load: u64,

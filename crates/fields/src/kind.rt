@@ -2,7 +2,7 @@
 ghost use Rattle.std.specs.Prelude.{◌≡◌};
 ghost use Rattle.fields.specs.Kinds.{widths, bytes};
 
-#[derive(Drop)]
+#[derive(Clone, Copy)]
 pub enum Kind {
     ListHead,
     ListRecord,

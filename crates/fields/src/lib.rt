@@ -2,6 +2,8 @@
 //
 // It knows nothing of flows, lists, tables or planning. No public function asks anything of its caller: a slice or a room that is
 // too short and a value that is too wide are answers, and a refused write alters no byte.
+#![tactic(auto)]
+
 mod bits;
 mod kind;
 mod record;

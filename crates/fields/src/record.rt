@@ -7,14 +7,14 @@ use crate::kind::Kind;
 
 // What reading finds: whether the slice holds the record whole, and its values in order with zeros behind them. A record
 // that is not there has zeros alone.
-#[derive(Drop)]
+#[derive(Clone, Copy)]
 pub struct Reading {
     pub whole: bool,
     pub values: [u16; 6],
 }
 
 // What writing comes to: it is done, the room is too short, or a value is too wide for its field.
-#[derive(Drop)]
+#[derive(Clone, Copy)]
 pub enum Stored {
     Done,
     Short,

@@ -1,6 +1,8 @@
 // A list's records, found by the numbers of their flows: the records are noted by the last eight bits of their numbers, and a search goes through those that share them.
 //
 // No public function asks anything of its caller.
+#![tactic(auto)]
+
 ghost use Rattle.std.specs.Prelude.{◌≡◌, ◌%◌, ◌≤◌, ◌<◌, min};
 ghost use Rattle.lists.specs.Lists.{count, flows_of};
 ghost use Rattle.finding.specs.Parts.{record_of, Indexed};

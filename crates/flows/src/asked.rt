@@ -5,7 +5,7 @@ ghost use Rattle.flows.specs.Flows.{new_flow, asked};
 use crate::flow::{Flow, Rule};
 
 // The flow, or that a field breaks its rule.
-#[derive(Drop)]
+#[derive(Clone, Copy)]
 pub enum Asked {
     Kept(Flow),
     Broken,

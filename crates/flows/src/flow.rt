@@ -4,7 +4,7 @@ ghost use Rattle.logic.specs.Numbers.{among};
 ghost use Rattle.flows.specs.Flows.{rule};
 
 // A flow: its number, and in slots its size, its interval and the jitter that it tolerates.
-#[derive(Drop)]
+#[derive(Clone, Copy)]
 pub struct Flow {
     pub number: u16,
     pub size: u16,
@@ -13,7 +13,7 @@ pub struct Flow {
 }
 
 // What the rule of test 4 says of a flow.
-#[derive(Drop)]
+#[derive(Clone, Copy)]
 pub enum Rule {
     Kept,
     Broken,

@@ -2,6 +2,8 @@
 // code.
 //
 // Every record is handed to the field reader as a part of the slice. No public function asks anything of its caller.
+#![tactic(auto)]
+
 mod facts;
 mod limits;
 mod packed;

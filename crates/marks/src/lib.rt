@@ -1,6 +1,8 @@
 // A set of small numbers: a bit for each, eight to a byte.
 //
 // No function asks anything of its caller.
+#![tactic(auto)]
+
 ghost use Rattle.std.specs.Prelude.{◌≡◌, ◌&&◌, ◌||◌, ◌-◌, ◌%◌, min, eqb};
 ghost use Rattle.marks.specs.Marks.{marked, Alike, Marks};
 

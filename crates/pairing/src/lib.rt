@@ -2,6 +2,8 @@
 //
 // They write nothing but the bytes lent for the bits of the numbers, whatever stands in them before and after. No public function asks
 // anything of its caller.
+#![tactic(auto)]
+
 mod both;
 mod intervals;
 mod numbers;

@@ -11,7 +11,7 @@ use lists::{count, flow_at};
 use refusals::Refusal;
 
 // What two records are compared by.
-#[derive(Drop)]
+#[derive(Clone, Copy)]
 pub enum Pair {
     Number,
     Interval,

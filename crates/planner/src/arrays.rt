@@ -4,7 +4,7 @@ ghost use Rattle.planner.specs.Cells.{free};
 
 // For each frame of the cycle its content and the largest overhang that its grants bear; the flows in the order of placing; for each
 // flow its frame's overhang when its group ended. The flows' frames stand in bytes that the caller lends.
-#[derive(Drop)]
+#[derive(Clone, Copy)]
 pub struct Layout {
     pub contents: [u16; 256],
     pub limits: [u16; 256],

@@ -4,7 +4,7 @@ ghost use Rattle.placing.specs.Rule.{rep};
 ghost use Rattle.planner.specs.Cells.{Reached};
 
 // Where a walk along the frames stands: its frame, and the overhang that comes into it.
-#[derive(Drop)]
+#[derive(Clone, Copy)]
 pub struct Reach {
     pub at: usize,
     pub over: u32,

@@ -7,7 +7,7 @@ use crate::frames::{Reach, past};
 use placing::Found;
 
 // What a search finds, and the overhang that comes into the frame where it ends.
-#[derive(Drop)]
+#[derive(Clone, Copy)]
 pub struct Search {
     pub found: Found,
     pub over: u32,

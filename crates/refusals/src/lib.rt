@@ -1,11 +1,13 @@
 // Document 01's refusals and those that document 02 adds, and the answers that carry one.
+#![tactic(auto)]
+
 ghost use Rattle.std.specs.Prelude.{◌≡◌};
 ghost use Rattle.refusals.specs.Refusals.{number, place};
 ghost use Rattle.refusals.specs.Tests.{◌⟫◌, unless};
 
 // A refusal, named after its test, with the place at fault where document 01 names one: its number, when it is given, and what
 // the place counts.
-#[derive(Drop)]
+#[derive(Clone, Copy)]
 pub enum Refusal {
     // 1: list under 4 bytes, or not its exact length
     Length,
@@ -66,14 +68,14 @@ pub enum Refusal {
 }
 
 // What tests answer.
-#[derive(Drop)]
+#[derive(Clone, Copy)]
 pub enum Checked {
     Passed,
     Refused(Refusal),
 }
 
 // What an operation that writes answers: how many bytes now stand at the room's front, or a refusal.
-#[derive(Drop)]
+#[derive(Clone, Copy)]
 pub enum Written {
     Bytes(usize),
     Refused(Refusal),

@@ -2,14 +2,14 @@
 use flows::Flow;
 
 // What a line says.
-#[derive(Drop)]
+#[derive(Clone, Copy)]
 pub enum Line {
     Of(Flow),
     Bad,
 }
 
 // A line where it stands in the sheet: what it says, and the place behind it; of a bad line the place where it goes wrong.
-#[derive(Drop)]
+#[derive(Clone, Copy)]
 pub struct LineAt {
     pub line: Line,
     pub end: usize,

@@ -10,7 +10,7 @@ use fields::{Kind, Stored};
 const LAST: usize = 3689348814741910320;
 
 // A grant of a table: its flow's number, the slot that it starts at and how late that is.
-#[derive(Drop)]
+#[derive(Clone, Copy)]
 pub struct Grant {
     pub flow: u16,
     pub start: u16,

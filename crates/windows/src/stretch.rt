@@ -51,7 +51,7 @@ fn grants_before(table: &[u8], a: u64) -> usize
 }
 
 // Where the records with a ≤ start < b stand in the table, from the first byte up to the end, or the window's refusal.
-#[derive(Drop)]
+#[derive(Clone, Copy)]
 pub enum Edges {
     Bytes(usize, usize),
     Refused(Refusal),

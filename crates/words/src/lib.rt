@@ -2,6 +2,8 @@
 //
 // No public function asks anything of its caller: a place outside the text holds nothing, and a room that is too short stays
 // as it is.
+#![tactic(auto)]
+
 mod decimal;
 mod number;
 mod numeral;

@@ -6,7 +6,7 @@ ghost use Rattle.words.specs.Numbers.{formed, goes_on, number_at, number_after};
 use crate::word::begins;
 
 // What a reader of a number finds: its value and the place behind it.
-#[derive(Drop)]
+#[derive(Clone, Copy)]
 pub enum Number {
     Is(u16, usize),
     Nothing,
