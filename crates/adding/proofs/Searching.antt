@@ -21,7 +21,7 @@ use Rattle.tables.proofs.Records.{length-grants}
 use Rattle.law.specs.Check.{slots}
 use Rattle.law.specs.Law.{blank, nth}
 use Rattle.law.proofs.Chains.{chain_at}
-use Rattle.offsets.specs.Offsets.{grants_from, new_grants, apart, free, fits, smallest, offset}
+use Rattle.offsets.specs.Offsets.{grants_from, new_grants, apart, free, fits, offset}
 use Rattle.offsets.proofs.Smallest.{smallest_same}
 use Rattle.offsets.proofs.Joining.{length_from}
 use Rattle.adding.specs.Parts.{new_grant, Overlaid, free_from, run_at, first_run}

@@ -7,7 +7,7 @@ use lib.ListN.{length, drop}
 use Rattle.fields.specs.declared.kind.Kind.TheVariants.{TableHead}
 use Rattle.fields.specs.Records.{room_after}
 use Rattle.flows.specs.declared.flow.Flow.{Flow}
-use Rattle.lists.specs.Facts.{cycle, frame, grants_of}
+use Rattle.lists.specs.Facts.{grants_of}
 use Rattle.tables.specs.Tables.{count, cycle_of, frame_of, head_fields, place, grants_of as grants_in, table_of, records_after}
 use Rattle.tables.proofs.Records.{length-grants}
 use Rattle.tables.proofs.Meaning.{Holds, length-table}

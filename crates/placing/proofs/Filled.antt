@@ -16,7 +16,7 @@ use Rattle.placing.proofs.Placed.{newly, put_leaves}
 use Rattle.placing.proofs.Groups.{group_at, group-other}
 use Rattle.placing.proofs.Layouts.{granted}
 use Rattle.placing.proofs.Ended.{olds-length}
-use Rattle.placing.proofs.Room.{Going, going, step}
+use Rattle.placing.proofs.Room.{Going, step}
 
 -- the slots in frames are those of the earlier grants and of the group's flows
 pub contents-split : (xs : List Frame) → sum content xs ≡ granted occupies (olds xs) + newly occupies xs

@@ -125,6 +125,10 @@ ends-length φ i j cs ls ks bs (f ∷ fs) =
     (λ e. rw (ends_on φ i j cs ls ks bs f fs _ _ (stamp-own φ i j cs ls ks bs f e)) (ends-length φ i (suc j) cs _ ks _ fs ∙ simp length-set))
     (λ e. rw (ends_on φ i j cs ls ks bs f fs _ _ (stamp-other φ i j cs ls ks bs f e)) (ends-length φ i (suc j) cs ls ks bs fs))
 
+own-limit : (φ k m d : ℕ) (cs ls : List ℕ) → k ≡ m → m < length ls
+    → get_or (set ls k (min (over φ 0 (take k cs) + d) (get_or ls k 0))) m 0 ≡ min (over φ 0 (take m cs) + d) (get_or ls m 0)
+own-limit φ k m d cs ls q h = rw q (get_or-set_same ls m (min (over φ 0 (take m cs) + d) (get_or ls m 0)) 0 h)
+
 ends-limit : (φ i j m : ℕ) (cs ls ks bs : List ℕ) (fs : List Flow) → m < length ls
     → get_or (end_cells φ i j cs ls ks bs fs).limits m 0 ≡ lowered (over φ 0 (take m cs)) (members i m j fs ks) (get_or ls m 0)
 unfolding end_cells members keep lowered
@@ -140,7 +144,7 @@ ends-limit φ i j m cs ls ks bs (f ∷ fs) h =
     (by_eq k m
     (λ q.
     rw (stands-own i m f k e, eq-eqb k m q)
-    (r ∙ rw (sym q) (ap (lowered o (members i k (suc j) fs ks)) (get_or-set_same ls k (min (o + f.jitter) (get_or ls k 0)) 0 (omega arith)))))
+    (r ∙ ap (lowered (over φ 0 (take m cs)) (members i m (suc j) fs ks)) (own-limit φ k m f.jitter cs ls q h)))
     (λ q. rw (stands-own i m f k e, ne_eqb k m q)
     (r ∙ ap (lowered (over φ 0 (take m cs)) (members i m (suc j) fs ks)) (get_or-set_other ls k m (min (o + f.jitter) (get_or ls k 0)) 0 (λ z. q (sym z)))))))
     (λ e.

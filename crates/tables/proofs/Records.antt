@@ -1,7 +1,7 @@
 -- A record of a table, read and written at its place. Assumes nothing.
 use mathlib.Core.Path.{◌≡◌, refl, sym}
 use mathlib.Core.List.{List, [], ◌∷◌, ◌++◌}
-use Prim.Native.Nat.{ℕ, ◌+◌, ◌-◌, ◌≤◌, ◌<◌}
+use Prim.Native.Nat.{ℕ, ◌+◌, ◌≤◌, ◌<◌}
 use native.Mathlib.Omega.{arith}
 use lib.ListN.{length, get_or, take, drop, replicate, length-drop}
 use lib.Seq.{length-take-le, take-take}
@@ -33,6 +33,7 @@ values_there t i n h e =
     rw (e, length-take-le 5 s l, take-take 5 5 s (omega arith), le-leb 5 (length s) l)
 
 second : (vs : List ℕ) → Fit (10 ∷ 12 ∷ 12 ∷ 6 ∷ 0 ∷ 0 ∷ []) vs → get_or vs 1 0 < 4096
+second [] f = elim f [ ]
 second (a ∷ []) f = absurd f.1
 second (a ∷ b ∷ vs) f = f.1.0
 
@@ -46,6 +47,7 @@ start_small t i vs e =
 -- ---- the count
 
 fourth : (vs : List ℕ) → Fit (4 ∷ 4 ∷ 8 ∷ 16 ∷ 16 ∷ 16 ∷ []) vs → get_or vs 3 0 < 65536
+fourth [] f = elim f [ ]
 fourth (a ∷ []) f = absurd f.1
 fourth (a ∷ b ∷ []) f = absurd f.1.1
 fourth (a ∷ b ∷ c ∷ []) f = absurd f.1.1.1

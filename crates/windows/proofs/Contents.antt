@@ -100,7 +100,7 @@ module _ (s : Bor (List ℕ)) (a b : ℕ) where
 
   -- on refusal it is empty, at the table's front
   pub window-refused : (r : Bor (List ℕ)) (refusal : Refusal) → Answer r → window_tests s.now a b ≡ Refused refusal
-      → (r.now ≡ []) × (r.ref_ptr.0 ≡ s.ptr.0) × (r.ref_ptr.1 ≡ s.ptr.1)
+      → (r.now ≡ []) × (r.ref_ptr.0 ≡ s.ref_ptr.0) × (r.ref_ptr.1 ≡ s.ref_ptr.1)
   window-refused r refusal w e =
       let i = edge-refused _ s.now a refusal e in
       let k = edge-refused _ s.now b refusal e in

@@ -1,0 +1,12 @@
+-- `tables::packed::frame` meets its contract.
+-- Assumes nothing.
+use mathlib.Core.Path.{ap}
+use mathlib.Core.List.{List}
+use Prim.Native.Nat.{ℕ}
+use lib.ListN.{get_or}
+use Rattle.tables.specs.Tables.{frame_of}
+use Rattle.tables.proofs.packed.frame.Goals as goal
+
+pub returns : goal.returns
+unfolding frame_of
+returns c = ap (λ (head : List ℕ). get_or head 5 0) c.head_of-head.ensures

@@ -1,0 +1,22 @@
+-- `texts::line::put_head` meets its contract.
+-- Assumes nothing.
+use native.Mathlib.Omega.{arith}
+use Rattle.texts.proofs.Lines.{length-head, head-put}
+use Rattle.texts.proofs.line.put_head.Goals as goal
+
+pub put_piece-a-requires : goal.put_piece-a-requires
+put_piece-a-requires c = omega (arith, c.requires, length-head c.args.cycle c.args.frame c.args.grants c.args.load)
+
+pub put_piece-b-requires : goal.put_piece-b-requires
+put_piece-b-requires c = omega (arith, c.requires, length-head c.args.cycle c.args.frame c.args.grants c.args.load, c.put_piece-a.ensures.0, c.put_piece-a.auto.room)
+
+pub put_piece-d-requires : goal.put_piece-d-requires
+put_piece-d-requires c = omega (arith, c.requires, length-head c.args.cycle c.args.frame c.args.grants c.args.load, c.put_piece-a.ensures.0, c.put_piece-a.auto.room, c.put_piece-b.ensures.0, c.put_piece-b.auto.room)
+
+pub put_piece-e-requires : goal.put_piece-e-requires
+put_piece-e-requires c = omega (arith, c.requires, length-head c.args.cycle c.args.frame c.args.grants c.args.load, c.put_piece-a.ensures.0, c.put_piece-a.auto.room, c.put_piece-b.ensures.0, c.put_piece-b.auto.room, c.put_piece-d.ensures.0, c.put_piece-d.auto.room)
+
+pub returns : goal.returns
+returns c =
+    head-put c.args.cycle c.args.frame c.args.grants c.args.load c.args.room.now c.put_piece-a.result c.put_piece-a.new.room c.put_piece-b.result c.put_piece-b.new.room c.put_piece-d.result c.put_piece-d.new.room c.put_piece-e.result c.put_piece-e.new.room c.put.result c.put.new.room
+    c.requires (omega (arith, c.put_piece-a.auto.room, c.put_piece-b.auto.room, c.put_piece-d.auto.room, c.put_piece-e.auto.room)) c.put_piece-a.ensures c.put_piece-b.ensures c.put_piece-d.ensures c.put_piece-e.ensures (c.put.ensures.value, c.put.ensures.room_after)
