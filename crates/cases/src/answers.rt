@@ -6,89 +6,91 @@ ghost use Rattle.tables.specs.Tables.{count as table_count, place as table_place
 use crate::print;
 use offsets::Added;
 use refusals::{Checked, Written};
+use std::io;
+use std::io::Write;
 use windows::Edges;
 
 // The bytes written, and the sum of the whole room.
-fn filled(bytes: u64, room: &[u8]) {
-    print::field(bytes);
-    print::field(print::adler(room) as u64);
+fn filled<W: Write>(to: &mut W, bytes: u64, room: &[u8]) -> io::Result<()> {
+    print::field(to, bytes)?;
+    print::field(to, print::adler(room) as u64)
 }
 
 // Refusal and place, the bytes written, and the sum of the whole room.
-fn made(name: &[u8], answer: Written, room: &[u8]) {
-    print::word(name);
+fn made<W: Write>(to: &mut W, name: &[u8], answer: Written, room: &[u8]) -> io::Result<()> {
+    print::word(to, name)?;
     match answer {
         Written::Refused(r) => {
-            print::refusal(r);
-            filled(0, room);
+            print::refusal(to, r)?;
+            filled(to, 0, room)?;
         }
         Written::Bytes(n) => {
-            print::word(b" 0 0");
-            filled(n as u64, room);
+            print::word(to, b" 0 0")?;
+            filled(to, n as u64, room)?;
         }
     }
-    print::word(b"\n");
+    print::word(to, b"\n")
 }
 
 // Sheet to list.
-fn pack(input: &[u8], room: &mut [u8]) {
+fn pack<W: Write>(to: &mut W, input: &[u8], room: &mut [u8]) -> io::Result<()> {
     let answer = reading::list_from_sheet(input, room);
-    made(b"pack", answer, room);
+    made(to, b"pack", answer, room)
 }
 
 // List to sheet.
-fn unpack(input: &[u8], room: &mut [u8]) {
+fn unpack<W: Write>(to: &mut W, input: &[u8], room: &mut [u8]) -> io::Result<()> {
     let answer = printing::sheet_from_list(input, room);
-    made(b"write", answer, room);
+    made(to, b"write", answer, room)
 }
 
 // A plan.
-fn plan(input: &[u8], room: &mut [u8]) {
+fn plan<W: Write>(to: &mut W, input: &[u8], room: &mut [u8]) -> io::Result<()> {
     let answer = planner::plan(input, room);
-    made(b"plan", answer, room);
+    made(to, b"plan", answer, room)
 }
 
 // Sheet to list (1), list to sheet (2) or plan (3).
-pub fn write(op: u8, input: &[u8], room: &mut [u8]) {
+pub fn write<W: Write>(to: &mut W, op: u8, input: &[u8], room: &mut [u8]) -> io::Result<()> {
     if op == 1 {
-        pack(input, room);
+        pack(to, input, room)
     } else {
         if op == 2 {
-            unpack(input, room);
+            unpack(to, input, room)
         } else {
-            plan(input, room);
+            plan(to, input, room)
         }
     }
 }
 
 // Refusal and place.
-pub fn check(list: &[u8], table: &[u8]) {
-    print::word(b"check");
+pub fn check<W: Write>(to: &mut W, list: &[u8], table: &[u8]) -> io::Result<()> {
+    print::word(to, b"check")?;
     let answer = checking::check(list, table);
     match answer {
-        Checked::Refused(r) => print::refusal(r),
-        Checked::Passed => print::word(b" 0 0"),
+        Checked::Refused(r) => print::refusal(to, r)?,
+        Checked::Passed => print::word(to, b" 0 0")?,
     }
-    print::word(b"\n");
+    print::word(to, b"\n")
 }
 
 // Refusal and place, where the stretch starts and how many bytes it has.
-pub fn window(table: &[u8], a: u64, b: u64) {
-    print::word(b"window");
+pub fn window<W: Write>(to: &mut W, table: &[u8], a: u64, b: u64) -> io::Result<()> {
+    print::word(to, b"window")?;
     let stretch = windows::window(table, a, b);
     let edges = windows::edges_of(table, a, b);
     match edges {
         Edges::Refused(r) => {
-            print::refusal(r);
-            print::field(0);
+            print::refusal(to, r)?;
+            print::field(to, 0)?;
         }
         Edges::Bytes(first, _) => {
-            print::word(b" 0 0");
-            print::field(first as u64);
+            print::word(to, b" 0 0")?;
+            print::field(to, first as u64)?;
         }
     }
-    print::field(stretch.len() as u64);
-    print::word(b"\n");
+    print::field(to, stretch.len() as u64)?;
+    print::word(to, b"\n")
 }
 
 // The bytes of the list at the room's front, as its head says.
@@ -106,7 +108,8 @@ fn table_bytes(room: &[u8]) -> u64
 }
 
 // Refusal and place, the offset found, and of each room the bytes written and the sum of the whole.
-pub fn add(
+pub fn add<W: Write>(
+    to: &mut W,
     list: &[u8],
     table: &[u8],
     number: u64,
@@ -115,36 +118,42 @@ pub fn add(
     jitter: u64,
     list_room: &mut [u8],
     table_room: &mut [u8],
-) {
-    print::word(b"add");
+) -> io::Result<()> {
+    print::word(to, b"add")?;
     let answer = adding::live_add(
         list, table, number, size, interval, jitter, list_room, table_room,
     );
     match answer {
         Added::Refused(r) => {
-            print::refusal(r);
-            print::field(0);
-            filled(0, list_room);
-            filled(0, table_room);
+            print::refusal(to, r)?;
+            print::field(to, 0)?;
+            filled(to, 0, list_room)?;
+            filled(to, 0, table_room)?;
         }
         Added::Offset(offset) => {
-            print::word(b" 0 0");
-            print::field(offset as u64);
-            filled(list_bytes(list_room), list_room);
-            filled(table_bytes(table_room), table_room);
+            print::word(to, b" 0 0")?;
+            print::field(to, offset as u64)?;
+            filled(to, list_bytes(list_room), list_room)?;
+            filled(to, table_bytes(table_room), table_room)?;
         }
     }
-    print::word(b"\n");
+    print::word(to, b"\n")
 }
 
 // Modem settings to list.
-pub fn convert(settings: &[u8], slot_microseconds: u64, slot_bytes: u64, room: &mut [u8]) {
+pub fn convert<W: Write>(
+    to: &mut W,
+    settings: &[u8],
+    slot_microseconds: u64,
+    slot_bytes: u64,
+    room: &mut [u8],
+) -> io::Result<()> {
     let answer = converting::list_from_settings(settings, slot_microseconds, slot_bytes, room);
-    made(b"settings", answer, room);
+    made(to, b"settings", answer, room)
 }
 
 // Rounding a list's intervals to a base.
-pub fn round(list: &[u8], base: u64, room: &mut [u8]) {
+pub fn round<W: Write>(to: &mut W, list: &[u8], base: u64, room: &mut [u8]) -> io::Result<()> {
     let answer = rounding::round_list(list, base, room);
-    made(b"round", answer, room);
+    made(to, b"round", answer, room)
 }

@@ -2,24 +2,24 @@
 ghost use Rattle.std.specs.Prelude.{◌≡◌};
 ghost use Rattle.cases.specs.Adler.{adler};
 
-use libc::STDOUT_FILENO;
 use refusals::Refusal;
+use std::io;
+use std::io::Write;
 
 // Writes a word.
-pub fn word(text: &[u8]) {
-    io::write_all(STDOUT_FILENO, text);
+pub fn word<W: Write>(to: &mut W, text: &[u8]) -> io::Result<()> {
+    to.write_all(text)
 }
 
 // Writes a space and a number behind it.
-pub fn field(n: u64) {
-    word(b" ");
-    io::print_decimal(STDOUT_FILENO, n);
+pub fn field<W: Write>(to: &mut W, n: u64) -> io::Result<()> {
+    write!(to, " {n}")
 }
 
 // Writes a refusal's number and place.
-pub fn refusal(r: Refusal) {
-    field(r.number() as u64);
-    field(r.place() as u64);
+pub fn refusal<W: Write>(to: &mut W, r: Refusal) -> io::Result<()> {
+    field(to, r.number() as u64)?;
+    field(to, r.place() as u64)
 }
 
 // The Adler-32 sum of the bytes.

@@ -1,1 +1,3 @@
+pub mod Filling
+pub mod Inputs
 pub mod Texts

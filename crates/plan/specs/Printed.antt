@@ -1,5 +1,5 @@
 -- Document 01: the program "prints the plan"; "A refusal prints one line". What it prints of a list and of a sheet. Assumes nothing.
-use Rattle.std.specs.Prelude.{ℕ, List}
+use Rattle.std.specs.Prelude.{ℕ, cond, List, [], ltb, length, codes}
 use Rattle.refusals.specs.declared.Written.{Written}
 use Rattle.refusals.specs.declared.Written.TheVariants.{Bytes, Refused}
 use Rattle.lists.specs.Lists.{list_of}
@@ -20,3 +20,11 @@ list_text l = printed (plan_answer l 5128) (plan_text l (plan_table l))
 -- what is printed of a sheet, whose list has a room for 128 flows
 unfoldable pub sheet_text : List ℕ → List ℕ
 sheet_text s = printed (list_answer s 772) (list_text (list_of (flows_in s)))
+
+-- what is written of a text, for which there is a room of 32,768 bytes
+abbrev pub shown : List ℕ → List ℕ
+shown t = cond (ltb 32768 (length t)) [] t
+
+-- what is written of the bytes that are read: a sheet has at most 65,536
+unfoldable pub input_text : List ℕ → List ℕ
+input_text s = cond (ltb 65536 (length s)) (codes "sheet too long\n") (shown (sheet_text s))

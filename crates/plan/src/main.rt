@@ -1,11 +1,17 @@
 // Reads a sheet of at most 65,536 bytes on standard input and prints its plan, or the line of its refusal.
-ghost use Rattle.std.specs.Prelude.{◌≡◌, length};
+#![tactic(auto)]
+
+mod input;
+
+ghost use Rattle.std.specs.Prelude.{◌≡◌, length, OnOk, IfSome};
+ghost use Rattle.std.specs.Io.KnownBytes.{Appends};
 ghost use Rattle.refusals.specs.declared.Checked.TheVariants.{Passed};
 ghost use Rattle.refusals.specs.Answers.{answer, written};
-ghost use Rattle.plan.specs.Printed.{list_text, sheet_text};
+ghost use Rattle.plan.specs.Printed.{list_text, sheet_text, input_text};
 
-use libc::{STDIN_FILENO, STDOUT_FILENO};
 use refusals::Written;
+use std::io;
+use std::io::{Read, Write};
 
 // Plans a list: the text of the plan or of its refusal at the room's front, or the refusal of a room that is too short.
 fn list_text(list: &[u8], room: &mut [u8]) -> Written
@@ -33,16 +39,23 @@ fn sheet_text(sheet: &[u8], room: &mut [u8]) -> Written
     }
 }
 
-fn main() {
+// Reads a sheet and writes its text, or the one line that it is too long.
+fn print_plan<R: Read, W: Write>(from: &mut R, to: &mut W) -> io::Result<()>
+    ensures { OnOk result (IfSome (R.remaining from.old) (λ s. Appends (W.contents to.old) (W.contents to.new) (input_text s))) }
+{
     let mut sheet = [0u8; 65537];
-    let n = io::read_full(STDIN_FILENO, &mut sheet);
+    let n = input::read_full(from, &mut sheet)?;
     if 65536 < n {
-        io::write_all(STDOUT_FILENO, b"sheet too long\n");
-        return;
+        return to.write_all(b"sheet too long\n");
     }
     let mut room = [0u8; 32768];
     let made = sheet_text(&sheet[..n], &mut room);
-    if let Written::Bytes(k) = made {
-        io::write_all(STDOUT_FILENO, &room[..k]);
+    match made {
+        Written::Refused(_) => Ok(()),
+        Written::Bytes(k) => to.write_all(&room[..k]),
     }
+}
+
+fn main(rt: HostRuntime) -> io::Result<()> {
+    print_plan(&mut rt.stdin(), &mut rt.stdout())
 }
