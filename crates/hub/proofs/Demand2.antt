@@ -50,10 +50,10 @@ plan_table-passes l room k e =
 pub sheet_comes_back : (s room room' : List ℕ) (k : ℕ) → list_answer s (length room) ≡ Bytes k → length s ≤ length room'
     → let l = take k (room_of_list s room) in
     (sheet_answer l (length room') ≡ Bytes (length s)) × (sheet_room l room' ≡ s ++ drop (length s) room')
-sheet_comes_back = RoundTrip.sheet-comes-back
+sheet_comes_back = RoundTrip.sheet_comes_back
 
 -- list → sheet → list: the same bytes, whatever the rooms held
 pub list_comes_back : (l room room' : List ℕ) (k : ℕ) → ((i : ℕ) → get_or l i 0 < 256) → sheet_answer l (length room) ≡ Bytes k → length l ≤ length room'
     → let s = take k (sheet_room l room) in
     (list_answer s (length room') ≡ Bytes (length l)) × (room_of_list s room' ≡ l ++ drop (length l) room')
-list_comes_back = RoundTrip.list-comes-back
+list_comes_back = RoundTrip.list_comes_back

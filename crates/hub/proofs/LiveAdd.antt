@@ -46,7 +46,7 @@ made_pair l t f n m o e =
             others_stand = rw back (old_stand l t f p.0 p.1 o);
             none_late = rw own (all_imp (Prompt f) (λ g. g.late ≡ 0) (new_grants (cycle (flows_of l)) f o) (λ g a. a.1) (from_prompt f o (grants_each (cycle (flows_of l)) f)));
           };
-      new_grants_lem = own;
+      own_grants = own;
       passes = (check_is_lawful (new_list l f) (new_table l t f o)).1 least.1;
       below = least.0;
       smallest = least.2;

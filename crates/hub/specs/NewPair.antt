@@ -23,7 +23,7 @@ pub record NewPair (l t : List ℕ) (f : Flow) (o : ℕ) (l' t' : List ℕ) : Ty
   pub new_last : flows_of l' ≡ flows_of l ++ (f ∷ [])
   pub stands : Stands t f t'
   -- the new flow's grants start at the offset and step by its interval through the cycle
-  pub new_grants_lem : to f.number (grants_of t') ≡ new_grants (cycle (flows_of l)) f o
+  pub own_grants : to f.number (grants_of t') ≡ new_grants (cycle (flows_of l)) f o
   -- "Demand 2 holds for the new pair"
   pub passes : check l' t' ≡ Passed
   -- "the smallest offset from 0 to interval less one": no smaller one gives a lawful table

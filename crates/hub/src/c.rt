@@ -1,5 +1,6 @@
-// The C interface: each function answers 0 when its work is done, and otherwise the refusal's number in document 01. It adds
-// nothing to the operation that it calls. The names begin with the product's, since C has one space of names.
+// The functions of the C interface, which `hub_c` exports: each answers 0 when its work is done, and otherwise the refusal's
+// number in document 01. It adds nothing to the operation that it calls. The names begin with the product's, since C has one
+// space of names.
 ghost use Rattle.std.specs.Prelude.{◌≡◌, length};
 ghost use Rattle.flows.specs.Flows.{new_flow};
 ghost use Rattle.refusals.specs.Refusals.{number, place};
@@ -39,8 +40,7 @@ fn report(made: Written, out: &mut u64) -> u32
 }
 
 // Sheet to list: tests 20, 3, 4 and 9.
-#[unsafe(no_mangle)]
-pub extern "C" fn snowploughy_list_from_sheet(sheet: &[u8], room: &mut [u8], out: &mut u64) -> u32
+pub fn snowploughy_list_from_sheet(sheet: &[u8], room: &mut [u8], out: &mut u64) -> u32
     ensures number { result ≡ code (list_answer sheet.now (length room.old)) }
     ensures value { out.new ≡ value (list_answer sheet.now (length room.old)) }
     ensures room { room.new ≡ room_of_list sheet.now room.old }
@@ -50,8 +50,7 @@ pub extern "C" fn snowploughy_list_from_sheet(sheet: &[u8], room: &mut [u8], out
 }
 
 // List to sheet: tests 1 to 4 and 9.
-#[unsafe(no_mangle)]
-pub extern "C" fn snowploughy_sheet_from_list(list: &[u8], room: &mut [u8], out: &mut u64) -> u32
+pub fn snowploughy_sheet_from_list(list: &[u8], room: &mut [u8], out: &mut u64) -> u32
     ensures number { result ≡ code (sheet_answer list.now (length room.old)) }
     ensures value { out.new ≡ value (sheet_answer list.now (length room.old)) }
     ensures room { room.new ≡ sheet_room list.now room.old }
@@ -61,8 +60,7 @@ pub extern "C" fn snowploughy_sheet_from_list(list: &[u8], room: &mut [u8], out:
 }
 
 // Planning: tests 1 to 10.
-#[unsafe(no_mangle)]
-pub extern "C" fn snowploughy_plan(list: &[u8], room: &mut [u8], out: &mut u64) -> u32
+pub fn snowploughy_plan(list: &[u8], room: &mut [u8], out: &mut u64) -> u32
     ensures number { result ≡ code (plan_answer list.now (length room.old)) }
     ensures value { out.new ≡ value (plan_answer list.now (length room.old)) }
     ensures room { room.new ≡ plan_room list.now room.old }
@@ -72,8 +70,7 @@ pub extern "C" fn snowploughy_plan(list: &[u8], room: &mut [u8], out: &mut u64) 
 }
 
 // The check of a table against its list: tests 1 to 7 and 11 to 18. It writes nothing but the place.
-#[unsafe(no_mangle)]
-pub extern "C" fn snowploughy_check(list: &[u8], table: &[u8], out: &mut u64) -> u32
+pub fn snowploughy_check(list: &[u8], table: &[u8], out: &mut u64) -> u32
     ensures number { result ≡ check_code (check list.now table.now) }
     ensures value { out.new ≡ check_value (check list.now table.now) }
 {
@@ -88,14 +85,7 @@ pub extern "C" fn snowploughy_check(list: &[u8], table: &[u8], out: &mut u64) ->
 }
 
 // The grants that start in a window, as a stretch of the table: tests 11, 12 and 19.
-#[unsafe(no_mangle)]
-pub extern "C" fn snowploughy_window(
-    table: &[u8],
-    a: u64,
-    b: u64,
-    first: &mut u64,
-    bytes: &mut u64,
-) -> u32
+pub fn snowploughy_window(table: &[u8], a: u64, b: u64, first: &mut u64, bytes: &mut u64) -> u32
     ensures number { result ≡ window_code (edges_of table.now a b) }
     ensures first { first.new ≡ window_first (edges_of table.now a b) }
     ensures bytes { bytes.new ≡ window_bytes (edges_of table.now a b) }
@@ -130,8 +120,7 @@ fn report_added(added: Added, out: &mut u64) -> u32
 
 // Adds one flow, given by four plain numbers, to a running table: the tests of the old list and table, then 3 to 6 on the new list,
 // 21, 7 on the new list, 9 for either room, and 22. Done, the value is the offset.
-#[unsafe(no_mangle)]
-pub extern "C" fn snowploughy_live_add(
+pub fn snowploughy_live_add(
     list: &[u8],
     table: &[u8],
     number: u64,
@@ -154,8 +143,7 @@ pub extern "C" fn snowploughy_live_add(
 }
 
 // Modem settings to list, for a slot length in microseconds and bytes in a slot: tests 26, 23, 24, 25, 3 to 6 and 9.
-#[unsafe(no_mangle)]
-pub extern "C" fn snowploughy_list_from_settings(
+pub fn snowploughy_list_from_settings(
     settings: &[u8],
     slot_microseconds: u64,
     slot_bytes: u64,
@@ -171,13 +159,7 @@ pub extern "C" fn snowploughy_list_from_settings(
 }
 
 // Rounding a list's intervals to a base: tests 1 to 5, 27, 28, 4 on the new list, and 9.
-#[unsafe(no_mangle)]
-pub extern "C" fn snowploughy_round_list(
-    list: &[u8],
-    base: u64,
-    room: &mut [u8],
-    out: &mut u64,
-) -> u32
+pub fn snowploughy_round_list(list: &[u8], base: u64, room: &mut [u8], out: &mut u64) -> u32
     ensures number { result ≡ code (round_answer base list.now (length room.old)) }
     ensures value { out.new ≡ value (round_answer base list.now (length room.old)) }
     ensures room { room.new ≡ round_room base list.now room.old }
