@@ -1,7 +1,8 @@
 /* Snowploughy: plans and checks tables of constant-bit-rate grants.
  *
- * Link with libhub.a (`rt staticlib hub`). Every function answers for every input: no caller has to check anything first.
- * Each is proved to meet its contract in crates/hub/src/c.rt; nothing checks these declarations against that file. */
+ * Link with libhub.a: `rt lib` in crates/hub_c makes it as crates/hub_c/out/libhub_c.a. Every function answers for every input: no
+ * caller has to check anything first. Each is proved to meet its contract in crates/hub_c/src/lib.rt; nothing checks these
+ * declarations against that file. */
 #ifndef SNOWPLOUGHY_H
 #define SNOWPLOUGHY_H
 

@@ -12,6 +12,7 @@ It turns whole words in .antt and .rt files, in the must-fail edits, and in the 
 import collections
 import os
 import re
+import sys
 
 # the words of the library that our lemmas speak of
 LIBRARY = set(
@@ -150,6 +151,10 @@ def turned(text, new, fields):
 
 
 def main():
+    if len(sys.argv) > 1 or not os.path.isfile("crates.txt"):
+        sys.exit(__doc__)
+    if not any(re.match(r"[a-z0-9]+[A-Z]", n) for n in declarations()[0]):
+        sys.exit("no definition is in camel case: these sources are turned already")
     new, kept, fields = table()
     for path in files(".antt", ".rt", ".edit"):
         old = read(path)
