@@ -4,8 +4,7 @@ use mathlib.Core.Bool.{Bool, true, false}
 use mathlib.Core.List.{List}
 use Prim.Native.Nat.{ℕ}
 use Rattle.refusals.specs.declared.Refusal.TheVariants.{Head}
-use Rattle.refusals.specs.declared.Checked.{Checked}
-use Rattle.refusals.specs.declared.Checked.TheVariants.{Passed, Refused}
+use Rattle.refusals.specs.Results.{Checked, Passed, Refused}
 use Rattle.refusals.specs.Tests.{◌⟫◌}
 use Rattle.refusals.proofs.Chains.{unless_yes, unless_no, chain_assoc}
 use Rattle.lists.specs.Lists.{flows_of}
@@ -15,10 +14,6 @@ use Rattle.pairing.specs.Parts.{pair_tests}
 
 -- test 2, of a head that is or is not that of a list
 module _ (l : List ℕ) (b : Bool) (e : b ≡ headed l) where
-  pub other-head : b ≡ false → test2 l ≡ Refused Head
-  unfolding test2
-  other-head n = unless_no (headed l) Head (sym e ∙ n)
-
   pub list_head : b ≡ true → test2 l ≡ Passed
   unfolding test2
   list_head y = unless_yes (headed l) Head (sym e ∙ y)

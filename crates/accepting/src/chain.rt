@@ -6,108 +6,76 @@ ghost use Rattle.lists.specs.Tests.{test1, test2, test3, test1exact, test4, test
 ghost use Rattle.accepting.specs.Parts.{headed};
 
 use facts::facts_of;
-use fields::Kind;
-use flows::{Rule, times};
-use lists::{count, few, flow_at};
+use flows::times;
+use lists::{count, few, flow_at, head_of};
 use pairing::{BITS, number_test, pair_tests};
-use refusals::{Checked, Refusal};
+use refusals::{Refusal, unless};
 
 // The head's edition, kind and spare bits are those of a list.
 fn headed(list: &[u8]) -> bool
     ensures { result ≡ headed list.now }
 {
-    let head = fields::read(Kind::ListHead, list);
-    let values = head.values;
-    if values[0] != 1 {
-        return false;
-    }
-    if values[1] != 1 {
-        return false;
-    }
-    values[2] == 0
+    matches!(head_of(list), [1, 1, 0, ..])
 }
 
 // Tests 1 to 3, and 1 again for the exact length: all that the head and the length tell.
-fn head_tests(list: &[u8]) -> Checked
+#[tactic(auto, unfolding(lists::specs::Tests::test1, lists::specs::Tests::test2, lists::specs::Tests::test3, lists::specs::Tests::test1exact))]
+fn head_tests(list: &[u8]) -> Result<(), Refusal>
     ensures { result ≡ (test1 list.now ⟫ test2 list.now ⟫ test3 (count list.now) ⟫ test1exact list.now) }
 {
-    if list.len() < 4 {
-        return Checked::Refused(Refusal::Length);
-    }
-    if !headed(list) {
-        return Checked::Refused(Refusal::Head);
-    }
+    unless(4 <= list.len(), Refusal::Length)?;
+    unless(headed(list), Refusal::Head)?;
     let n = count(list);
-    if !few(n) {
-        return Checked::Refused(Refusal::Count);
-    }
-    if list.len() != 4 + 6 * n {
-        return Checked::Refused(Refusal::Length);
-    }
-    Checked::Passed
+    unless(few(n), Refusal::Count)?;
+    unless(list.len() == 4 + 6 * n, Refusal::Length)
 }
 
 // Test 4: the first record that breaks its rule.
-fn field_test(list: &[u8]) -> Checked
+fn field_test(list: &[u8]) -> Result<(), Refusal>
     ensures { result ≡ test4 (flows_of list.now) }
 {
-    let n = count(list);
-    for i in 0..n {
-        let rule = flow_at(list, i).rule();
-        if let Rule::Broken = rule {
-            return Checked::Refused(Refusal::Field(i + 1));
-        }
+    for i in 0..count(list) {
+        unless(flow_at(list, i).keeps(), Refusal::Field(i + 1))?;
     }
-    Checked::Passed
+    Ok(())
 }
 
 // Test 7: at most 256 frames and 1,024 grants.
-fn limit_test(list: &[u8]) -> Checked
+#[tactic(auto, unfolding(lists::specs::Tests::test7, lists::specs::Facts::facts_of))]
+fn limit_test(list: &[u8]) -> Result<(), Refusal>
     ensures { result ≡ test7 (flows_of list.now) }
 {
     let facts = facts_of(list);
-    if 256 < times(facts.cycle, facts.frame) {
-        return Checked::Refused(Refusal::Limits);
-    }
-    if 1024 < facts.grants {
-        return Checked::Refused(Refusal::Limits);
-    }
-    Checked::Passed
+    unless(
+        times(facts.cycle, facts.frame) <= 256 && facts.grants <= 1024,
+        Refusal::Limits,
+    )
 }
 
 // Tests 1 to 4 of a list.
-pub fn tests_1_to_4(list: &[u8]) -> Checked
+#[tactic(auto, unfolding(lists::specs::Tests::tests1to4))]
+pub fn tests_1_to_4(list: &[u8]) -> Result<(), Refusal>
     ensures { result ≡ tests1to4 list.now }
 {
-    let head = head_tests(list);
-    if let Checked::Refused(r) = head {
-        return Checked::Refused(r);
-    }
+    head_tests(list)?;
     field_test(list)
 }
 
 // Tests 1 to 5 of a list. The lent bytes may hold anything before and after.
-pub fn tests_1_to_5(list: &[u8], bits: &mut [u8; BITS]) -> Checked
+#[tactic(auto, unfolding(lists::specs::Tests::tests1to5))]
+pub fn tests_1_to_5(list: &[u8], bits: &mut [u8; BITS]) -> Result<(), Refusal>
     ensures { result ≡ tests1to5 list.now }
 {
-    let first = tests_1_to_4(list);
-    if let Checked::Refused(r) = first {
-        return Checked::Refused(r);
-    }
+    tests_1_to_4(list)?;
     number_test(list, bits)
 }
 
 // Tests 1 to 7 of a list. The lent bytes may hold anything before and after.
-pub fn tests_1_to_7(list: &[u8], bits: &mut [u8; BITS]) -> Checked
+#[tactic(auto, unfolding(lists::specs::Tests::tests1to7, lists::specs::Tests::tests1to4))]
+pub fn tests_1_to_7(list: &[u8], bits: &mut [u8; BITS]) -> Result<(), Refusal>
     ensures { result ≡ tests1to7 list.now }
 {
-    let first = tests_1_to_4(list);
-    if let Checked::Refused(r) = first {
-        return Checked::Refused(r);
-    }
-    let pairs = pair_tests(list, bits);
-    if let Checked::Refused(r) = pairs {
-        return Checked::Refused(r);
-    }
+    tests_1_to_4(list)?;
+    pair_tests(list, bits)?;
     limit_test(list)
 }

@@ -1,166 +1,157 @@
--- Live add's answer and its two rooms, test by test. Assumes nothing.
-use mathlib.Core.Path.{◌≡◌, refl, sym, ap, ◌∙◌}
-use mathlib.Core.Bool.{Bool, true, false, ◌&&◌}
-use mathlib.Core.List.{List, [], ◌∷◌, ◌++◌}
-use mathlib.Core.Option.{Option, none, some}
-use Prim.Native.Nat.{ℕ, ◌+◌, ◌/◌, ◌≤◌, ◌<◌}
-use native.Mathlib.Omega.{arith}
-use lib.Dec.{leb}
-use lib.ListN.{length, drop, length-append}
-use borrow.Author.Tests.{leb-true}
+-- Live add's answer and its two rooms, step by step. Assumes nothing.
+use Rattle.std.proofs.Common.{Bool, ◌≡◌, refl, sym, ap, subst, ◌∙◌, true, false, cond, List, ◌++◌, ℕ, ◌+◌, ◌/◌, ◌≤◌, ◌<◌, ltb, leb, length, drop, Ok, Err, Some, None, arith, leb-true, Option, Result, ok_or}
 use Rattle.logic.proofs.Tests.{and_both}
 use Rattle.flows.specs.declared.flow.Flow.{Flow}
 use Rattle.flows.specs.Flows.{keeps}
-use Rattle.flows.proofs.Flows.{rule_kept, kept_keeps}
 use Rattle.refusals.specs.declared.Refusal.{Refusal}
 use Rattle.refusals.specs.declared.Refusal.TheVariants.{Count, Field, Room, NoOffset}
-use Rattle.refusals.specs.declared.Checked.TheVariants.{Passed, Refused}
+use Rattle.refusals.specs.Results.{Checked, Passed, Refused, Written}
 use Rattle.refusals.specs.Tests.{◌⟫◌, unless}
 use Rattle.refusals.specs.Answers.{written}
-use Rattle.refusals.proofs.Chains.{both_passed}
-use Rattle.refusals.proofs.Walks.{more_alone}
+use Rattle.refusals.proofs.Chains.{both_passed, unless_passed}
 use Rattle.refusals.proofs.Rooms.{ends-written}
 use Rattle.lists.specs.Lists.{count, flows_of}
-use Rattle.lists.specs.Tests.{test1, test2, test3, test1exact, test4, test5, test6, test7, tests1to4, tests1to7}
-use Rattle.lists.proofs.Records.{length-flows}
-use Rattle.lists.proofs.Verdicts.{few, not-few}
+use Rattle.lists.specs.Tests.{tests1to4, tests1to7}
 use Rattle.tables.specs.Tables.{count as table_count, cycle_of, frame_of, place as table_place, grants_of as grants_in, table_of}
 use Rattle.law.specs.Check.{check}
-use Rattle.law.proofs.Demand.{check_parts}
-use Rattle.offsets.specs.declared.Added.{Added}
-use Rattle.offsets.specs.declared.Added.TheVariants.{Offset, Refused as Stopped}
-use Rattle.offsets.specs.Offsets.{fits, offset}
-use Rattle.offsets.specs.Adding.{with_new, test21, new_tests, list_bytes, table_bytes, test9, test22, add_tests, offset_found, new_list, new_table, table_added, add_answer, room_of_list, room_of_table}
+use Rattle.offsets.specs.Offsets.{offset}
+use Rattle.offsets.specs.Adding.{new_tests, list_bytes, table_bytes, test9, test22, add_tests, offset_found, new_list, new_table, table_added, add_answer, room_of_list, room_of_table}
 use Rattle.offsets.proofs.Joining.{length-new_list, length-new_table}
-use Rattle.offsets.proofs.Smallest.{smallest_exactly}
-use Rattle.adding.specs.declared.search.First.TheVariants.{At, Nowhere}
-use Rattle.adding.specs.Parts.{Joins, first_of, grants_after}
-use Rattle.adding.proofs.Known.{known}
-use Rattle.adding.proofs.Verdicts.{table_longer}
+use Rattle.offsets.proofs.Adding.{each_passed, answered, offset-smallest}
+use Rattle.pairing.specs.Parts.{new_pair_tests}
+use Rattle.adding.specs.Parts.{new_record, limit_tests, later_tests, Joins, grants_after}
+use Rattle.adding.proofs.Verdicts.{list_passes, new_told, tests_told, table_longer}
 use Rattle.adding.proofs.Tabling.{table_same}
 
--- ---- 3 and 4 on the new list, and what follows
+-- ---- the answer
 
-module _ (l t : List ℕ) (f : Flow) (ok : check l t ≡ Passed) where
-  -- the list passes tests 1 to 7, and 1 to 4
-  list_passes : tests1to7 l ≡ Passed
-  list_passes = ((check_parts l t).0 ok).list
+-- a record of the new list is made of the flow itself, if there is room for one and the flow keeps its rule
+record_made : (l : List ℕ) (f g : Flow) → new_record l f ≡ Ok g → (f ≡ g) × (ltb (count l) 128 ≡ true) × (keeps f ≡ true)
+record_made l f g e = go (ltb (count l) 128) (keeps f) e
+  where
+    go : (a b : Bool) → ◌≡◌ {A = Result Flow Refusal} (cond a (cond b (Ok f) (Err (Field (count l + 1)))) (Err Count)) (Ok g) → (f ≡ g) × (a ≡ true) × (b ≡ true)
+    go true true q = (cc, refl, refl)
+    go true false q = let z : ◌≡◌ {A = ℕ} 0 1 = cc in absurd (omega arith)
+    go false b q = let z : ◌≡◌ {A = ℕ} 0 1 = cc in absurd (omega arith)
 
-  pub list_passes_4 : tests1to4 l ≡ Passed
-  unfolding tests1to7
-  list_passes_4 = (both_passed (tests1to4 l) _ list_passes).0
-
-  -- one flow more
-  long : length (with_new (flows_of l) f) ≡ count l + 1
-  unfolding with_new
-  long = omega (arith, length-append (flows_of l) (f ∷ []), length-flows l)
-
-  pub new_full : 128 ≤ count l → new_tests (flows_of l) f ≡ Refused Count
-  unfolding new_tests
-  new_full h = rw (not-few (length (with_new (flows_of l) f)) (λ k. omega (arith, k.1, long)))
-
-  module _ (h : count l < 128) where
-    -- test 4 on the new list is that of the new flow
-    new_fields : test4 (with_new (flows_of l) f) ≡ unless (keeps f) (Field (count l + 1))
-    unfolding test4 with_new tests1to4
-    new_fields =
-        let a = both_passed (test1 l) _ list_passes_4 in
-        let b = both_passed (test2 l) _ a.1 in
-        let c = both_passed (test3 (count l)) _ b.1 in
-        let d = both_passed (test1exact l) _ c.1 in
-        more_alone Field keeps (flows_of l) f d.1 ∙ ap (λ (n : ℕ). unless (keeps f) (Field (n + 1))) (length-flows l)
-
-    passes_3 : test3 (length (with_new (flows_of l) f)) ≡ Passed
-    passes_3 = few (length (with_new (flows_of l) f)) (omega (arith, long), omega (arith, long))
-
-    pub new-broken : keeps f ≡ false → new_tests (flows_of l) f ≡ Refused (Field (count l + 1))
-    unfolding new_tests
-    new-broken e = rw (passes_3, new_fields, e)
-
-    pub new_kept : keeps f ≡ true
-        → new_tests (flows_of l) f ≡ (test5 (with_new (flows_of l) f) ⟫ test6 (with_new (flows_of l) f) ⟫ test21 (flows_of l) f ⟫ test7 (with_new (flows_of l) f))
-    unfolding new_tests
-    new_kept e = rw (passes_3, new_fields, e)
-
--- ---- the answer and the rooms
-
-module _ (l t : List ℕ) (f : Flow) (lr tr : List ℕ) where
-  -- what live add answers, and what it leaves in the rooms
-  abbrev pub Ends : Added → List ℕ → List ℕ → Type 0
-  Ends a lo to =
-      (a ≡ add_answer l t f (length lr) (length tr)) × ((lo ≡ room_of_list l t f lr (length tr)) × (to ≡ room_of_table l t f (length lr) tr))
-
-  stops : (r : Refusal) → add_tests l t f (length lr) (length tr) ≡ Refused r → Ends (Stopped r) lr tr
-  unfolding add_answer room_of_list room_of_table written
-  stops r e = rw (e, add_answer) (refl, (refl, refl))
+module _ (l t : List ℕ) (f : Flow) (n m : ℕ) where
+  -- what the tests come to is the answer
+  answer_is : (c : Checked) → add_tests l t f n m ≡ c → elim c [ Ok _ ↦ Ok (offset_found (flows_of l) (grants_in t) f) | Err r ↦ Err r ] ≡ add_answer l t f n m
+  unfolding add_answer
+  answer_is c e = rw (e, add_answer)
 
   -- the old list or table is refused
-  pub ends-checked : (r : Refusal) → check l t ≡ Refused r → Ends (Stopped r) lr tr
+  pub check_refuses : (r : Refusal) → check l t ≡ Refused r → Err r ≡ add_answer l t f n m
   unfolding add_tests
-  ends-checked r e = stops r (rw e)
+  check_refuses r e = answer_is (Refused r) (rw e)
 
-  -- the new flow is refused
-  pub ends-new : (r : Refusal) → check l t ≡ Passed → new_tests (flows_of l) f ≡ Refused r → Ends (Stopped r) lr tr
-  unfolding add_tests
-  ends-new r e q = stops r (rw (e, q))
+  module _ (ok : check l t ≡ Passed) where
+    -- the new flow is refused as a record of the new list
+    pub record_refuses : (r : Refusal) → new_record l f ≡ Err r → Err r ≡ add_answer l t f n m
+    record_refuses r e = answer_is (Refused r) (tests_told l t f ok n m ∙ go (ltb (count l) 128) (keeps f) e)
+      where
+        go : (a b : Bool) → ◌≡◌ {A = Result Flow Refusal} (cond a (cond b (Ok f) (Err (Field (count l + 1)))) (Err Count)) (Err r)
+            → (unless a Count ⟫ unless b (Field (count l + 1)) ⟫ later_tests l t f n m ⟫ test22 (flows_of l) (grants_in t) f) ≡ Refused r
+        go true true q = let z : ◌≡◌ {A = ℕ} 0 1 = cc in absurd (omega arith)
+        go true false q = cc
+        go false b q = cc
 
-  module _ (J : Joins l t f) (b : Bool) (room : b ≡ leb (list_bytes (flows_of l) f) (length lr) && leb (table_bytes (flows_of l) (grants_in t) f) (length tr)) where
-    -- a room is too short
-    pub ends_short : b ≡ false → Ends (Stopped Room) lr tr
-    unfolding add_tests test9
-    ends_short e = stops Room (rw (J.checked, J.new, sym room ∙ e))
+    module _ (g : Flow) (made : new_record l f ≡ Ok g) where
+      -- what is left of the tests
+      left : add_tests l t f n m ≡ (later_tests l t g n m ⟫ test22 (flows_of l) (grants_in t) g)
+      left = let r = record_made l f g made in rw (tests_told l t f ok n m, r.1, r.2, r.0)
 
-    module _ (yes : b ≡ true) where
-      -- both rooms are long enough
-      pub roomy_both : (list_bytes (flows_of l) f ≤ length lr) × (table_place (table_count t + cycle_of t / f.interval) ≤ length tr)
-      roomy_both =
-          let a = and_both (leb (list_bytes (flows_of l) f) (length lr)) (leb (table_bytes (flows_of l) (grants_in t) f) (length tr)) (sym room ∙ yes) in
-          (leb-true _ _ a.0, rw (table_longer l t f J.checked) (leb-true _ _ a.1))
+      -- one of the later tests refuses
+      pub later_refuses : (r : Refusal) → later_tests l t g n m ≡ Refused r → Err r ≡ add_answer l t f n m
+      later_refuses r e = answer_is (Refused r) (left ∙ rw e)
 
-      -- what is left is 22
-      last_test : add_tests l t f (length lr) (length tr) ≡ test22 (flows_of l) (grants_in t) f
-      unfolding add_tests test9
-      last_test = rw (J.checked, J.new, sym room ∙ yes)
+      module _ (pass : later_tests l t g n m ≡ Passed) where
+        -- all of them pass
+        pub joins : Joins l t g
+        joins =
+            let r = record_made l f g made in
+            let a = both_passed (new_pair_tests (flows_of l) g) _ pass in
+            let b = both_passed (limit_tests t g) _ a.1 in
+            record { checked = ok; new = new_told l t g ok ∙ rw (← r.0) (rw (r.1, r.2, r.0, a.0, b.0)) }
 
-      -- no offset is found
-      pub ends_nowhere : Nowhere ≡ first_of (offset (flows_of l) (grants_in t) f) → Ends (Stopped NoOffset) lr tr
-      unfolding test22
-      ends_nowhere e = stops NoOffset (last_test ∙ go (offset (flows_of l) (grants_in t) f) e)
-        where
-          go : (x : Option ℕ) → Nowhere ≡ first_of x → elim x [ none ↦ Refused NoOffset | some o ↦ Passed ] ≡ Refused NoOffset
-          go none q = refl
-          go (some o) q = let z : ◌≡◌ {A = ℕ} 0 1 = cc in absurd (omega arith)
-
-      module _ (o : ℕ) (e : At o ≡ first_of (offset (flows_of l) (grants_in t) f)) where
-        found : offset (flows_of l) (grants_in t) f ≡ some o
-        found = go (offset (flows_of l) (grants_in t) f) e
+        -- no offset is found
+        pub offset_refuses : (r : Refusal) → ok_or (offset (flows_of l) (grants_in t) g) NoOffset ≡ Err r → Err r ≡ add_answer l t f n m
+        unfolding test22
+        offset_refuses r e = answer_is (Refused r) (left ∙ rw pass (go (offset (flows_of l) (grants_in t) g) e))
           where
-            go : (x : Option ℕ) → At o ≡ first_of x → x ≡ some o
-            go none q = let z : ◌≡◌ {A = ℕ} 0 1 = cc in absurd (omega arith)
-            go (some p) q = let s : o ≡ p = cc in ap some (sym s)
+            go : (x : Option ℕ) → ok_or x NoOffset ≡ Err r → elim x [ None ↦ Refused NoOffset | Some o ↦ Passed ] ≡ Refused r
+            go None q = cc
+            go (Some o) q = let z : ◌≡◌ {A = ℕ} 0 1 = cc in absurd (omega arith)
 
-        -- it is below the interval
-        pub found_below : o < f.interval
-        unfolding offset
-        found_below = ((smallest_exactly (fits (flows_of l) (grants_in t) f) f.interval o).0 found).0
+        -- an offset is found
+        pub offset_answers : (o : ℕ) → ok_or (offset (flows_of l) (grants_in t) g) NoOffset ≡ Ok o → Ok o ≡ add_answer l t f n m
+        unfolding test22 offset_found
+        offset_answers o e = go (offset (flows_of l) (grants_in t) g) refl e
+          where
+            go : (x : Option ℕ) → offset (flows_of l) (grants_in t) g ≡ x → ok_or x NoOffset ≡ Ok o → Ok o ≡ add_answer l t f n m
+            go None h q = let z : ◌≡◌ {A = ℕ} 0 1 = cc in absurd (omega arith)
+            go (Some p) h q =
+                let same : p ≡ o = cc in
+                let is : o ≡ offset_found (flows_of l) (grants_in t) f = rw ((record_made l f g made).0, offset_found, h) (sym same) in
+                ap (λ (x : ℕ). Ok x) is ∙ answer_is Passed (left ∙ rw (pass, test22, h))
 
-        -- the new list and the new table are written
-        pub ends-added : (lo to : List ℕ) → lo ≡ new_list l f ++ drop (length (new_list l f)) lr
-            → to ≡ table_of (cycle_of t) (frame_of t) (grants_after t f o) ++ drop (table_place (table_count t + cycle_of t / f.interval)) tr → Ends (Offset o) lo to
-        unfolding add_answer room_of_list room_of_table table_added test22 offset_found
-        ends-added lo to a b =
-            let pass : add_tests l t f (length lr) (length tr) ≡ Passed = last_test ∙ rw (found, test22) in
-            let is : o ≡ offset_found (flows_of l) (grants_in t) f = rw (found, offset_found) in
-            let r = roomy_both in
-            let size : table_place (table_count t + cycle_of t / f.interval) ≡ length (new_table l t f o) = table_longer l t f J.checked ∙ sym (length-new_table l t f o) in
-            let table : to ≡ new_table l t f o ++ drop (length (new_table l t f o)) tr = rw (← size, ← table_same l t f o J) b in (
-              rw (pass, add_answer) (ap Offset is),
-              (
-                (ends-written (add_tests l t f (length lr) (length tr)) (new_list l f) lr _ lo pass (omega (arith, r.0, length-new_list l f)) refl a).1,
-                rw (← is) (ends-written (add_tests l t f (length lr) (length tr)) (new_table l t f o) tr _ to pass (omega (arith, r.1, size)) refl table).1,
-              ),
-            )
+-- ---- the rooms
 
--- a flow that joins keeps its rule
-pub joins_keeps : (l t : List ℕ) (f : Flow) → Joins l t f → keeps f ≡ true
-joins_keeps l t f J = kept_keeps f (sym (rule_kept f (known l t f J).rule))
+module _ (l t : List ℕ) (f : Flow) (lr tr : List ℕ) where
+  -- where a refusal is answered both are as they were
+  pub stays : (r : Refusal) → Err r ≡ add_answer l t f (length lr) (length tr) → (lr ≡ room_of_list l t f lr (length tr)) × (tr ≡ room_of_table l t f (length lr) tr)
+  unfolding add_answer room_of_list room_of_table written
+  stays r e = go (add_tests l t f (length lr) (length tr)) e
+    where
+      go : (c : Checked) → ◌≡◌ {A = Written} (Err r) (elim c [ Ok _ ↦ Ok (offset_found (flows_of l) (grants_in t) f) | Err r ↦ Err r ])
+          → (lr ≡ written c (new_list l f) lr) × (tr ≡ written c (table_added l t f) tr)
+      go (Err q) i = (refl, refl)
+      go (Ok tt) i = let z : ◌≡◌ {A = ℕ} 0 1 = cc in absurd (omega arith)
+
+-- where an offset is answered, for the flow of the new record
+module _ (l t : List ℕ) (f g : Flow) (made : new_record l f ≡ Ok g) (lr tr : List ℕ) (o : ℕ) (e : Ok o ≡ add_answer l t f (length lr) (length tr)) where
+  passed : (add_tests l t f (length lr) (length tr) ≡ Passed) × (offset_found (flows_of l) (grants_in t) f ≡ o)
+  passed = answered l t f (length lr) (length tr) o (sym e)
+
+  tested : (check l t ≡ Passed) × (new_tests (flows_of l) f ≡ Passed) × (test9 (flows_of l) (grants_in t) f (length lr) (length tr) ≡ Passed)
+      × (test22 (flows_of l) (grants_in t) f ≡ Passed)
+  tested = each_passed l t f (length lr) (length tr) passed.0
+
+  -- the bytes of the new table, by the old one
+  bytes : table_place (table_count t + cycle_of t / f.interval) ≡ table_bytes (flows_of l) (grants_in t) f
+  bytes = table_longer l t f tested.0
+
+  -- both rooms are long enough
+  long_enough : (list_bytes (flows_of l) f ≤ length lr) × (table_place (table_count t + cycle_of t / f.interval) ≤ length tr)
+  unfolding test9
+  long_enough =
+      let a = and_both (leb (list_bytes (flows_of l) f) (length lr)) (leb (table_bytes (flows_of l) (grants_in t) f) (length tr)) (unless_passed _ Room tested.2) in
+      (leb-true _ _ a.0, rw bytes (leb-true _ _ a.1))
+
+  -- the old list passes, the flow keeps its rule, the offset is below its interval, and both rooms are long enough
+  pub may_write : (tests1to4 l ≡ Passed) × (keeps g ≡ true) × (o < g.interval) × (list_bytes (flows_of l) g ≤ length lr)
+      × (table_place (table_count t + cycle_of t / g.interval) ≤ length tr)
+  unfolding tests1to7
+  may_write =
+      let r = record_made l f g made in
+      let early : o < f.interval = (offset-smallest l t f (length lr) (length tr) o (sym e)).0 in
+      let fits = subst (λ (x : Flow). (keeps x ≡ true) × (o < x.interval) × (list_bytes (flows_of l) x ≤ length lr) × (table_place (table_count t + cycle_of t / x.interval) ≤ length tr)) r.0
+      (r.2, early, long_enough.0, long_enough.1) in
+      ((both_passed (tests1to4 l) _ (list_passes l t f tested.0)).0, fits.0, fits.1, fits.2, fits.3)
+
+  -- the new list is written
+  pub list_after : (lo : List ℕ) → lo ≡ new_list l g ++ drop (length (new_list l g)) lr → lo ≡ room_of_list l t f lr (length tr)
+  unfolding room_of_list
+  list_after lo h =
+      (ends-written (add_tests l t f (length lr) (length tr)) (new_list l f) lr _ lo passed.0 (omega (arith, long_enough.0, length-new_list l f)) refl (rw (record_made l f g made).0 h)).1
+
+  -- the new table is written
+  pub table_after : (to : List ℕ) → to ≡ table_of (cycle_of t) (frame_of t) (grants_after t g o) ++ drop (table_place (table_count t + cycle_of t / g.interval)) tr
+      → to ≡ room_of_table l t f (length lr) tr
+  unfolding room_of_table table_added
+  table_after to h =
+      let J : Joins l t f = record { checked = tested.0; new = tested.1 } in
+      let size : table_place (table_count t + cycle_of t / f.interval) ≡ length (new_table l t f o) = bytes ∙ sym (length-new_table l t f o) in
+      let written : to ≡ table_of (cycle_of t) (frame_of t) (grants_after t f o) ++ drop (table_place (table_count t + cycle_of t / f.interval)) tr = rw (record_made l f g made).0 h in
+      let table : to ≡ new_table l t f o ++ drop (length (new_table l t f o)) tr = rw (← size, ← table_same l t f o J) written in
+      rw passed.1 (ends-written (add_tests l t f (length lr) (length tr)) (new_table l t f o) tr _ to passed.0 (omega (arith, long_enough.1, size)) refl table).1

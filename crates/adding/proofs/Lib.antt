@@ -1,6 +1,7 @@
 pub mod Verdicts
 pub mod Merging
 pub mod Known
+pub mod Found
 pub mod Listing
 pub mod Tabling
 pub mod Overlays

@@ -1,11 +1,6 @@
 -- Old and new grants written one after another, in the order of their starts: the old ones run by run, as bytes. Assumes nothing.
-use mathlib.Core.Path.{◌≡◌, refl, sym, ap, subst, ◌∙◌}
-use mathlib.Core.Bool.{true}
-use mathlib.Core.List.{List, [], ◌∷◌, ◌++◌}
-use Prim.Native.Nat.{ℕ, zero, suc, ◌+◌, ◌-◌, ◌*◌, ◌≤◌, ◌<◌, min}
-use native.Mathlib.Omega.{arith}
-use lib.ListN.{length, get_or, take, drop, length-take, length-drop, take-append-drop}
-use lib.Seq.{sets, length-take-le, take_all, get_or-take, get_or-drop, drop-drop}
+use Rattle.std.proofs.Common.{◌≡◌, refl, sym, ap, subst, ◌∙◌, true, List, [], ◌∷◌, ◌++◌, ℕ, zero, suc, ◌+◌, ◌-◌, ◌*◌, ◌≤◌, ◌<◌, min, arith, length, get_or, take, drop, length-take, length-drop, take-append-drop, length-take-le, take_all, get_or-take, get_or-drop, drop-drop}
+use lib.Seq.{sets}
 use Rattle.logic.specs.Lists.{All}
 use Rattle.logic.proofs.Members.{all_get_d, get_d_all, all_imp}
 use Rattle.flows.specs.declared.flow.Flow.{Flow}
@@ -18,6 +13,7 @@ use Rattle.tables.proofs.Writing.{records-append, records-written}
 use Rattle.law.specs.Law.{blank, Rising}
 use Rattle.offsets.specs.Offsets.{grants_from, joined}
 use Rattle.offsets.proofs.Joining.{joined-old, joined-new, from-after}
+use Rattle.adding.specs.Parts.{new_grant}
 
 -- the grants behind the first i, whose starts rise from the first on
 rising-from : (x : ℕ) (gs : List Grant) (i : ℕ) → Rising gs → (i < length gs → x ≤ (get_or gs i blank).start) → All (λ g. x ≤ g.start) (drop i gs)
@@ -43,21 +39,21 @@ joined-olds x ns (h ∷ hs) gs a b =
     joined-old ns h (hs ++ gs) (all_imp (λ n. x ≤ n.start) (λ n. h.start < n.start) ns (λ n l. omega (arith, b.0)) a)
     ∙ ap (λ (rs : List Grant). h ∷ rs) (joined-olds x ns hs gs a b.1)
 
--- of the old grants gs and m new ones of f from slot o on, i and k are written, and x is where the next new one starts
-pub record Merging (gs : List Grant) (f : Flow) (o m : ℕ) (room₀ : List ℕ) (i k x : ℕ) (room : List ℕ) : Type 0 where
+-- of the old grants gs and m new ones of f from slot o on, i and k are written
+pub record Merging (gs : List Grant) (f : Flow) (o m : ℕ) (room₀ : List ℕ) (i k : ℕ) (room : List ℕ) : Type 0 where
   pub old : i ≤ length gs
   pub new : k ≤ m
-  pub next : x ≡ o + k * f.interval
-  pub rest : records_after (i + k) (joined (grants_from f x (m - k)) (drop i gs)) room ≡ records_after 0 (joined (grants_from f o m) gs) room₀
+  pub rest : records_after (i + k) (joined (grants_from f (o + k * f.interval) (m - k)) (drop i gs)) room ≡ records_after 0 (joined (grants_from f o m) gs) room₀
 
 module _ (gs : List Grant) (f : Flow) (o m : ℕ) (room₀ : List ℕ) where
-  pub merge_start : Merging gs f o m room₀ 0 0 o room₀
-  merge_start = let z : m - 0 ≡ m = omega arith in record { old = omega arith; new = omega arith; next = omega arith; rest = rw z }
+  module _ (i k : ℕ) (room : List ℕ) (M : Merging gs f o m room₀ i k room) where
+    -- the slot of the next new grant
+    abbrev x : ℕ
+    x = o + k * f.interval
 
-  module _ (i k x : ℕ) (room : List ℕ) (M : Merging gs f o m room₀ i k x room) where
-    -- the old grants up to grant j, which start before x, are written
-    pub merge_old : (j : ℕ) (next : List ℕ) → i ≤ j → j ≤ length gs → ((p : ℕ) → i ≤ p → p < j → (get_or gs p blank).start < x)
-        → next ≡ records_after (i + k) (take (j - i) (drop i gs)) room → Merging gs f o m room₀ j k x next
+    -- the old grants up to grant j, which start before it, are written
+    pub merge_old : (j : ℕ) (next : List ℕ) → i ≤ j → j ≤ length gs → ((p : ℕ) → i ≤ p → p < j → (get_or gs p blank).start < o + k * f.interval)
+        → next ≡ records_after (i + k) (take (j - i) (drop i gs)) room → Merging gs f o m room₀ j k next
     merge_old j next l h early r =
         let ns = grants_from f x (m - k) in
         let hs = take (j - i) (drop i gs) in
@@ -70,7 +66,6 @@ module _ (gs : List Grant) (f : Flow) (o m : ℕ) (room₀ : List ℕ) where
         record {
           old = h;
           new = M.new;
-          next = M.next;
           rest =
               ap (records_after (j + k) (joined ns (drop j gs))) r
               ∙ ap (λ (n : ℕ). records_after n (joined ns (drop j gs)) (records_after (i + k) hs room)) (sym many)
@@ -80,21 +75,16 @@ module _ (gs : List Grant) (f : Flow) (o m : ℕ) (room₀ : List ℕ) where
         }
 
     -- the next new grant is written: no old one left starts before it
-    pub merge_new : (next : List ℕ) → Rising gs → (i < length gs → x ≤ (get_or gs i blank).start) → k < m
-        → next ≡ record_after (record { flow = f.number; start = x; late = 0 }) (i + k) room → Merging gs f o m room₀ i (k + 1) (x + f.interval) next
+    pub merge_new : (next : List ℕ) → Rising gs → (i < length gs → o + k * f.interval ≤ (get_or gs i blank).start) → k < m
+        → next ≡ record_after (new_grant f (o + k * f.interval)) (i + k) room → Merging gs f o m room₀ i (k + 1) next
     unfolding records_after
     merge_new next rises h l r =
         let s : i + (k + 1) ≡ suc (i + k) = omega arith in
         let left : m - k ≡ suc (m - (k + 1)) = omega arith in
-        let g : Grant = record { flow = f.number; start = x; late = 0 } in
-        let first : joined (grants_from f x (m - k)) (drop i gs) ≡ g ∷ joined (grants_from f (x + f.interval) (m - (k + 1))) (drop i gs) =
+        let y : o + (k + 1) * f.interval ≡ x + f.interval = omega arith in
+        let first : joined (grants_from f x (m - k)) (drop i gs) ≡ new_grant f x ∷ joined (grants_from f (x + f.interval) (m - (k + 1))) (drop i gs) =
         ap (λ (n : ℕ). joined (grants_from f x n) (drop i gs)) left ∙ joined-new f x (m - (k + 1)) (drop i gs) (rising-from x gs i rises h) in
-        record {
-          old = M.old;
-          new = omega arith;
-          next = omega (arith, M.next);
-          rest = rw (s, r) (ap (λ (rs : List Grant). records_after (i + k) rs room) (sym first) ∙ M.rest);
-        }
+        record { old = M.old; new = omega arith; rest = rw (s, r, y) (ap (λ (rs : List Grant). records_after (i + k) rs room) (sym first) ∙ M.rest) }
 
     -- no new grant is left: the old ones left are written, and so all are
     pub merge_end : (n : ℕ) (out : List ℕ) → n ≡ length gs → m ≤ k → out ≡ records_after (i + k) (take (n - i) (drop i gs)) room

@@ -1,15 +1,11 @@
 -- Runs of free places, and the first that is long enough. Assumes nothing.
-use mathlib.Core.Path.{◌≡◌, refl, sym, ap, ◌∙◌}
-use mathlib.Core.Bool.{true, false, cond, not, and-false}
-use mathlib.Core.List.{List}
-use Prim.Native.Nat.{ℕ, zero, suc, ◌+◌, ◌≤◌, ◌<◌}
-use native.Mathlib.Omega.{arith}
-use borrow.Author.Tests.{le-leb, lt-leb}
+use Rattle.std.proofs.Common.{◌≡◌, refl, sym, ap, ◌∙◌, true, false, not, List, ℕ, zero, suc, ◌+◌, ◌≤◌, ◌<◌, arith, eqb, le-leb, Some, None}
+use mathlib.Core.Bool.{and-false}
+use borrow.Author.Tests.{lt-leb}
 use Rattle.logic.proofs.Tests.{by_test, by_lt, by_eq, true-not-false}
 use Rattle.marks.specs.Marks.{marked, Alike}
 use Rattle.offsets.proofs.Smallest.{smallest_exactly, none_exactly}
-use Rattle.adding.specs.declared.search.First.TheVariants.{At, Nowhere}
-use Rattle.adding.specs.Parts.{free_from, run_at, first_run, first_of}
+use Rattle.adding.specs.Parts.{free_from, run_at, first_run}
 
 module _ (bs : List ℕ) where
   -- places that are all free
@@ -53,42 +49,25 @@ pub record Run (bs : List ℕ) (n i o p : ℕ) : Type 0 where
   pub first : (j : ℕ) → j < o → run_at bs n i j ≡ false
 
 module _ (bs : List ℕ) (n i : ℕ) where
-  -- no place yet
-  pub run_none : Run bs n i 0 0
-  run_none = record { low = omega arith; clear = λ q a b. absurd (omega arith); first = λ j a. absurd (omega arith) }
-
   module _ (o p : ℕ) (R : Run bs n i o p) where
     -- the run is long enough
-    pub run-found : 0 < n → o + n ≤ i → o + n ≤ p → At o ≡ first_of (first_run bs n i)
-    run-found z h k =
+    pub run_found : 0 < n → o + n ≤ i → o + n ≤ p → Some o ≡ first_run bs n i
+    run_found z h k =
         let free = all-free bs o n (λ q a b. R.clear q a (omega arith)) in
-        let e = (smallest_exactly (run_at bs n i) i o).1 (omega arith, run_inside bs n i o h ∙ free, R.first) in
-        ap first_of (sym e)
+        sym ((smallest_exactly (run_at bs n i) i o).1 (omega arith, run_inside bs n i o h ∙ free, R.first))
 
     -- none that ends in the interval is left
-    pub run_end : i < o + n → Nowhere ≡ first_of (first_run bs n i)
-    run_end h =
-        let e = (none_exactly (run_at bs n i) i).1 (λ j k. by_lt j o (R.first j) (λ l. run_late bs n i j (omega arith))) in
-        ap first_of (sym e)
+    pub run_end : i < o + n → None ≡ first_run bs n i
+    run_end h = sym ((none_exactly (run_at bs n i) i).1 (λ j k. by_lt j o (R.first j) (λ l. run_late bs n i j (omega arith))))
 
-    -- m places more, all free or all taken
-    pub run-next : (m r : ℕ) → 0 < n → p < o + n → Alike bs p m → r ≡ cond (marked bs p) (p + m) o → Run bs n i r (p + m)
-    run-next m r z short A e =
-        by_test (marked bs p)
-        (λ t.
-        let behind : r ≡ p + m = e ∙ rw t in
+    -- m places more, all taken: a run starts behind them
+    pub run_taken : (m : ℕ) → Alike bs p m → 0 < n → p < o + n → marked bs p ≡ true → Run bs n i (p + m) (p + m)
+    run_taken m A z short t =
         record {
           low = omega arith;
           clear = λ q a b. absurd (omega arith);
-          first = λ j a. by_lt j o (R.first j) (λ l. by_lt p j (λ k. run_fails bs n i j j (omega arith) (omega arith) (alike j (omega arith) (omega arith) ∙ t)) (λ k. run_fails bs n i j p k (omega arith) t));
-        })
-        (λ t.
-        let same : r ≡ o = e ∙ rw t in
-        record {
-          low = omega (arith, R.low);
-          clear = λ q a b. by_lt q p (R.clear q (omega arith)) (λ l. alike q l b ∙ t);
-          first = λ j a. R.first j (omega arith);
-        })
+          first = λ j a. by_lt j o (R.first j) (λ l. by_lt p j (λ k. run_fails bs n i j j (omega arith) (omega arith) (taken j (omega arith) (omega arith))) (λ k. run_fails bs n i j p k (omega arith) t));
+        }
       where
-        alike : (q : ℕ) → p ≤ q → q < p + m → marked bs q ≡ marked bs p
-        alike q a b = rw (A.same q a b)
+        taken : (q : ℕ) → p ≤ q → q < p + m → marked bs q ≡ true
+        taken q low high = ap (λ (x : ℕ). eqb x 1) (A.same q low high) ∙ t

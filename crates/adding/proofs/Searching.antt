@@ -1,13 +1,8 @@
 -- Where the new flow fits: at the runs of free places in the intervals laid over one another. Assumes nothing.
-use mathlib.Core.Path.{◌≡◌, refl, sym, ap, ◌∙◌}
-use mathlib.Core.Bool.{Bool, true, false, or-true, and-false}
-use mathlib.Core.List.{List}
-use Prim.Native.Nat.{ℕ, zero, suc, ◌+◌, ◌-◌, ◌*◌, ◌/◌, ◌%◌, ◌≤◌, ◌<◌, max}
-use native.Mathlib.Omega.{arith}
-use native.Mathlib.Nat.{mul-le-mul_right, mod-eq_of_lt, mul-add-mod_self_right, div-add-mod', div-lt_iff_lt-mul}
-use lib.ListN.{length, get_or}
-use lib.Dec.{leb}
-use borrow.Author.Tests.{le-leb, lt-leb, eq-eqb, eqb-true}
+use Rattle.std.proofs.Common.{◌≡◌, refl, sym, ap, ◌∙◌, Bool, true, false, List, ℕ, zero, suc, ◌+◌, ◌-◌, ◌*◌, ◌/◌, ◌%◌, ◌≤◌, ◌<◌, max, arith, mul-le-mul_right, mod-eq_of_lt, div-add-mod', div-lt_iff_lt-mul, length, get_or, leb, le-leb, eq-eqb, eqb-true}
+use mathlib.Core.Bool.{or-true, and-false}
+use native.Mathlib.Nat.{mul-add-mod_self_right}
+use borrow.Author.Tests.{lt-leb}
 use Rattle.logic.specs.Lists.{every}
 use Rattle.logic.proofs.Tests.{by_test, by_lt, true-not-false}
 use Rattle.logic.proofs.Members.{all_get_d, get_d_all, every-all, all-every}

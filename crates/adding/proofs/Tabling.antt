@@ -1,9 +1,5 @@
 -- The new table, written behind its head. Assumes nothing.
-use mathlib.Core.Path.{◌≡◌, sym, ap, ◌∙◌}
-use mathlib.Core.List.{List, ◌++◌}
-use Prim.Native.Nat.{ℕ, ◌+◌, ◌/◌, ◌≤◌, ◌<◌}
-use native.Mathlib.Omega.{arith}
-use lib.ListN.{length, drop}
+use Rattle.std.proofs.Common.{◌≡◌, sym, ap, ◌∙◌, List, ◌++◌, ℕ, ◌+◌, ◌/◌, ◌≤◌, ◌<◌, arith, length, drop}
 use Rattle.fields.specs.declared.kind.Kind.TheVariants.{TableHead}
 use Rattle.fields.specs.Records.{room_after}
 use Rattle.flows.specs.declared.flow.Flow.{Flow}

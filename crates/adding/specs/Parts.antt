@@ -1,32 +1,47 @@
 -- What the code's own parts ask and answer. Assumes nothing.
-use Rattle.std.specs.Prelude.{◌≡◌, Bool, true, false, not, ◌&&◌, ◌⊎◌, List, ℕ, zero, suc, ◌+◌, ◌%◌, ◌≤◌, ◌<◌, ltb, leb}
-use Rattle.std.proofs.Math.Option.{Option, none, some}
+use Rattle.std.specs.Prelude.{◌≡◌, Bool, true, cond, not, ◌&&◌, ◌⊎◌, List, ℕ, zero, suc, ◌+◌, ◌*◌, ◌/◌, ◌%◌, ◌≤◌, ◌<◌, ltb, leb, length, Option, Result, Ok, Err}
 use Rattle.marks.specs.Marks.{bit, marked}
 use Rattle.flows.specs.declared.flow.Flow.{Flow}
-use Rattle.refusals.specs.declared.Checked.TheVariants.{Passed}
-use Rattle.lists.specs.Lists.{flows_of}
+use Rattle.flows.specs.Flows.{keeps}
+use Rattle.refusals.specs.declared.Refusal.{Refusal}
+use Rattle.refusals.specs.declared.Refusal.TheVariants.{Count, Field, Limits, Room, OutsideSpan}
+use Rattle.refusals.specs.Results.{Checked, Passed}
+use Rattle.refusals.specs.Tests.{◌⟫◌, unless}
+use Rattle.lists.specs.Lists.{count, flows_of}
 use Rattle.tables.specs.declared.packed.Grant.{Grant}
-use Rattle.tables.specs.Tables.{cycle_of, grant_at, grants_of as grants_in}
+use Rattle.tables.specs.Tables.{count as table_count, cycle_of, frame_of, grant_at, grants_of as grants_in}
+use Rattle.pairing.specs.Parts.{new_pair_tests}
 use Rattle.law.specs.Check.{check, slots}
 use Rattle.law.specs.Law.{nth}
 use Rattle.offsets.specs.Offsets.{new_grants, smallest, joined}
 use Rattle.offsets.specs.Adding.{new_tests}
-use Rattle.adding.specs.declared.search.First.{First}
-use Rattle.adding.specs.declared.search.First.TheVariants.{At, Nowhere}
 
 -- the list and the table pass the check, and the new flow its tests with them
 pub record Joins (l t : List ℕ) (f : Flow) : Type 0 where
   pub checked : check l t ≡ Passed
   pub new : new_tests (flows_of l) f ≡ Passed
 
+-- 3 and 4 on the new list: the new flow, if there is room for one record more and the flow keeps its rule
+abbrev pub new_record : List ℕ → Flow → Result Flow Refusal
+new_record l f = cond (ltb (count l) 128) (cond (keeps f) (Ok f) (Err (Field (count l + 1)))) (Err Count)
+
+-- 21, and 7 on the new list, by what the table says
+abbrev pub limit_tests : List ℕ → Flow → Checked
+limit_tests t f =
+    unless (leb (frame_of t) f.interval && leb f.interval (cycle_of t)) OutsideSpan
+    ⟫ unless (leb (table_count t + cycle_of t / f.interval) 1024) Limits
+
+-- 9, by the bytes of the old list and what the table says
+abbrev pub roomy : List ℕ → List ℕ → Flow → ℕ → ℕ → Bool
+roomy l t f n m = leb (length l + 6) n && leb (8 + 5 * (table_count t + cycle_of t / f.interval)) m
+
+-- 5 and 6 on the new list, 21, 7 on the new list, and 9
+abbrev pub later_tests : List ℕ → List ℕ → Flow → ℕ → ℕ → Checked
+later_tests l t f n m = new_pair_tests (flows_of l) f ⟫ limit_tests t f ⟫ unless (roomy l t f n m) Room
+
 -- the new flow's grant at slot x
 abbrev pub new_grant : Flow → ℕ → Grant
 new_grant f x = record { flow = f.number; start = x; late = 0 }
-
--- where the new flow fits, if anywhere
-abbrev pub first_of : Option ℕ → First
-first_of none = Nowhere
-first_of (some o) = At o
 
 -- nothing is marked
 abbrev pub Unmarked : List ℕ → Type 0
@@ -60,16 +75,12 @@ run_at bs n i p = leb (p + n) i && free_from bs p n
 abbrev pub first_run : List ℕ → ℕ → ℕ → Option ℕ
 first_run bs n i = smallest (run_at bs n i) 0 i
 
--- record i of n starts before the slot x
-abbrev pub comes_first : List ℕ → ℕ → ℕ → ℕ → Bool
-comes_first t n i x = ltb i n && ltb (grant_at t i).start x
-
 -- record r is the first of n from record i on that does not start before the slot x
 pub record NextFrom (t : List ℕ) (n i x r : ℕ) : Type 0 where
   pub on : i ≤ r
   pub within : r ≤ n
-  pub all : (p : ℕ) → i ≤ p → p < r → comes_first t n p x ≡ true
-  pub ends : comes_first t n r x ≡ false
+  pub all : (p : ℕ) → i ≤ p → p < r → (grant_at t p).start < x
+  pub ends : r < n → x ≤ (grant_at t r).start
 
 -- the grants of the new table, for the offset o
 abbrev pub grants_after : List ℕ → Flow → ℕ → List Grant

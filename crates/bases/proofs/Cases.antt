@@ -1,14 +1,11 @@
 -- Intervals, flows and lists rounded to a base, and what they answer, computed as lists, each under one claim. Assumes nothing.
-use mathlib.Core.Path.{◌≡◌, refl}
-use mathlib.Core.List.{List, [], ◌∷◌, map}
-use Prim.Native.Nat.{ℕ}
+use Rattle.std.proofs.Common.{◌≡◌, refl, List, [], ◌∷◌, map, ℕ, Ok, Err}
 use Rattle.logic.specs.Lists.{All, every}
 use Rattle.fields.specs.Records.{packed, values_of}
 use Rattle.flows.specs.declared.flow.Flow.{Flow}
 use Rattle.flows.specs.Flows.{keeps, flow_of, packed_flow}
 use Rattle.refusals.specs.declared.Refusal.TheVariants.{Length, Head, Count, Field, UsedNumber, Room, NoBase, BelowBase}
-use Rattle.refusals.specs.declared.Written.{Written}
-use Rattle.refusals.specs.declared.Written.TheVariants.{Bytes, Refused as Stopped}
+use Rattle.refusals.specs.Results.{Written}
 use Rattle.refusals.specs.Tests.{lowest, against}
 use Rattle.refusals.specs.Answers.{answer}
 use Rattle.lists.specs.Lists.{head, head_of, count, flow_at, flows_from, flows_of, records, list_of}
@@ -47,36 +44,36 @@ two s i t k = list_of (flow 1 s i 0 ∷ flow 2 t k 0 ∷ [])
 -- a base, the bytes of a list, the bytes of the room, and the answer
 abbrev answers : List (ℕ × List ℕ × ℕ × Written)
 answers =
-    (20, list_of paging, 22, Bytes 22)
+    (20, list_of paging, 22, Ok 22)
     -- over the limits of 7, before and after
-    ∷ (1, two 1 1 1 512, 20, Bytes 16)
+    ∷ (1, two 1 1 1 512, 20, Ok 16)
     -- 1 to 5: no bytes, an edition 2, no record, a record missing, a size of 0, a number used already
-    ∷ (20, [], 22, Stopped Length)
-    ∷ (20, 33 ∷ 0 ∷ 0 ∷ 1 ∷ [], 22, Stopped Head)
-    ∷ (20, 17 ∷ 0 ∷ 0 ∷ 0 ∷ [], 22, Stopped Count)
-    ∷ (20, 17 ∷ 0 ∷ 0 ∷ 1 ∷ [], 22, Stopped Length)
-    ∷ (20, two 1 20 0 20, 22, Stopped (Field 2))
-    ∷ (20, list_of (flow 7 1 20 0 ∷ flow 7 1 20 0 ∷ []), 22, Stopped (UsedNumber 2))
+    ∷ (20, [], 22, Err Length)
+    ∷ (20, 33 ∷ 0 ∷ 0 ∷ 1 ∷ [], 22, Err Head)
+    ∷ (20, 17 ∷ 0 ∷ 0 ∷ 0 ∷ [], 22, Err Count)
+    ∷ (20, 17 ∷ 0 ∷ 0 ∷ 1 ∷ [], 22, Err Length)
+    ∷ (20, two 1 20 0 20, 22, Err (Field 2))
+    ∷ (20, list_of (flow 7 1 20 0 ∷ flow 7 1 20 0 ∷ []), 22, Err (UsedNumber 2))
     -- 27: the ends of the range, and beyond them
-    ∷ (0, list_of paging, 22, Stopped NoBase)
-    ∷ (1, list_of paging, 22, Bytes 22)
-    ∷ (4096, two 1 4096 1 4096, 16, Bytes 16)
-    ∷ (4097, list_of paging, 22, Stopped NoBase)
+    ∷ (0, list_of paging, 22, Err NoBase)
+    ∷ (1, list_of paging, 22, Ok 22)
+    ∷ (4096, two 1 4096 1 4096, 16, Ok 16)
+    ∷ (4097, list_of paging, 22, Err NoBase)
     -- 28: the first record, and a later one; an interval equal to the base passes
-    ∷ (21, list_of paging, 22, Stopped (BelowBase 1))
-    ∷ (25, two 1 30 1 20, 16, Stopped (BelowBase 2))
-    ∷ (30, two 1 30 1 50, 16, Bytes 16)
+    ∷ (21, list_of paging, 22, Err (BelowBase 1))
+    ∷ (25, two 1 30 1 20, 16, Err (BelowBase 2))
+    ∷ (30, two 1 30 1 50, 16, Ok 16)
     -- 4 on the new list: a size of the new interval, and one more
-    ∷ (20, two 1 20 20 30, 16, Bytes 16)
-    ∷ (20, two 1 20 21 30, 16, Stopped (Field 2))
+    ∷ (20, two 1 20 20 30, 16, Ok 16)
+    ∷ (20, two 1 20 21 30, 16, Err (Field 2))
     -- 9: a byte too few
-    ∷ (20, list_of paging, 21, Stopped Room)
+    ∷ (20, list_of paging, 21, Err Room)
     -- two faults at once: 4 before 5, 5 before 27, 27 before 28, 28 before 4 on the new list, that before 9
-    ∷ (20, list_of (flow 7 1 20 0 ∷ flow 7 1 20 0 ∷ flow 8 0 20 0 ∷ []), 22, Stopped (Field 3))
-    ∷ (0, list_of (flow 7 1 20 0 ∷ flow 7 1 20 0 ∷ []), 16, Stopped (UsedNumber 2))
-    ∷ (4097, two 1 20 1 30, 16, Stopped NoBase)
-    ∷ (20, two 21 30 1 19, 16, Stopped (BelowBase 2))
-    ∷ (20, two 21 30 1 30, 15, Stopped (Field 1))
+    ∷ (20, list_of (flow 7 1 20 0 ∷ flow 7 1 20 0 ∷ flow 8 0 20 0 ∷ []), 22, Err (Field 3))
+    ∷ (0, list_of (flow 7 1 20 0 ∷ flow 7 1 20 0 ∷ []), 16, Err (UsedNumber 2))
+    ∷ (4097, two 1 20 1 30, 16, Err NoBase)
+    ∷ (20, two 21 30 1 19, 16, Err (BelowBase 2))
+    ∷ (20, two 21 30 1 30, 15, Err (Field 1))
     ∷ []
 
 -- each is answered by what stands beside it

@@ -1,11 +1,6 @@
 -- The rounded interval is the largest base times a power of two not above the interval, and nothing else is. Assumes nothing.
-use mathlib.Core.Path.{◌≡◌, refl, sym, ap, ◌∙◌}
-use mathlib.Core.Bool.{Bool, cond}
-use Prim.Native.Nat.{ℕ, zero, suc, ◌*◌, ◌^◌, ◌≤◌, ◌<◌}
-use native.Mathlib.Nat.{zero-mul, mul-one, mul_assoc, mul_comm, mul-le-mul_left, mul-le-mul_right, pow-suc}
-use native.Mathlib.Omega.{arith}
-use lib.Pow.{pow_pos, pow_mono}
-use borrow.Author.Tests.{le-leb, lt-leb}
+use Rattle.std.proofs.Common.{◌≡◌, refl, sym, ap, ◌∙◌, Bool, cond, ℕ, zero, suc, ◌*◌, ◌^◌, ◌≤◌, ◌<◌, zero-mul, mul-one, mul_assoc, mul_comm, mul-le-mul_left, mul-le-mul_right, pow-suc, arith, pow_pos, pow_mono, le-leb}
+use borrow.Author.Tests.{lt-leb}
 use Rattle.logic.proofs.Tests.{by_lt}
 use Rattle.bases.specs.Rounding.{largest_from, rounded}
 use Rattle.bases.specs.Becomes.{Largest}

@@ -1,14 +1,7 @@
 -- A list and a base that pass: what is known of them, the new list passes tests 1 to 6, and rounding it again gives it again. Assumes
 -- nothing.
-use mathlib.Core.Path.{◌≡◌, refl, ap, ap₂, ◌∙◌}
-use mathlib.Core.Bool.{Bool, true, ◌&&◌, not}
-use mathlib.Core.Logic.{◌↔◌}
-use mathlib.Core.List.{List, [], ◌∷◌}
-use Prim.Native.Nat.{ℕ, ◌≤◌, ◌<◌}
-use native.Mathlib.Omega.{arith}
-use lib.Dec.{leb, eqb}
-use lib.ListN.{length, length-map}
-use borrow.Author.Tests.{le-leb, lt-ltb, leb-true}
+use Rattle.std.proofs.Common.{◌≡◌, refl, ap, ap₂, ◌∙◌, Bool, true, ◌&&◌, not, ◌↔◌, List, [], ◌∷◌, ℕ, ◌≤◌, ◌<◌, arith, leb, eqb, length, le-leb, lt-ltb, leb-true}
+use lib.ListN.{length-map}
 use Rattle.logic.specs.Lists.{All, every}
 use Rattle.logic.specs.Numbers.{among}
 use Rattle.logic.proofs.Tests.{by_test, among_both}
@@ -17,7 +10,7 @@ use Rattle.flows.specs.declared.flow.Flow.{Flow}
 use Rattle.flows.specs.Flows.{keeps}
 use Rattle.flows.proofs.Flows.{keeps_is}
 use Rattle.refusals.specs.declared.Refusal.TheVariants.{UsedNumber, NoBase, BelowBase}
-use Rattle.refusals.specs.declared.Checked.TheVariants.{Passed}
+use Rattle.refusals.specs.Results.{Passed}
 use Rattle.refusals.specs.Tests.{lowest, against}
 use Rattle.refusals.proofs.Chains.{both_passed, passed_both, unless_passed}
 use Rattle.refusals.proofs.Entries.{each_passed}

@@ -1,17 +1,11 @@
 -- "Show that the rounded list is always related" (document 02, L3). Assumes nothing.
-use mathlib.Core.Path.{◌≡◌, ◌∙◌}
-use mathlib.Core.Bool.{true}
-use mathlib.Core.List.{List, [], ◌∷◌}
-use Prim.Native.Nat.{ℕ, ◌+◌, ◌-◌, ◌*◌, ◌%◌, ◌^◌, ◌≤◌, ◌<◌, max, min}
-use native.Mathlib.Nat.{mul_assoc, mul-mod_right}
-use native.Mathlib.Omega.{arith}
-use lib.Pow.{pow-add}
-use borrow.Author.Tests.{eq-eqb}
+use Rattle.std.proofs.Common.{◌≡◌, ◌∙◌, true, List, [], ◌∷◌, ℕ, ◌+◌, ◌-◌, ◌*◌, ◌%◌, ◌^◌, ◌≤◌, ◌<◌, max, min, mul_assoc, arith, pow-add, eq-eqb}
+use native.Mathlib.Nat.{mul-mod_right}
 use Rattle.logic.specs.Lists.{All}
 use Rattle.logic.proofs.Tests.{by_lt}
 use Rattle.flows.specs.declared.flow.Flow.{Flow}
 use Rattle.refusals.specs.declared.Refusal.TheVariants.{Unrelated}
-use Rattle.refusals.specs.declared.Checked.TheVariants.{Passed}
+use Rattle.refusals.specs.Results.{Passed}
 use Rattle.refusals.proofs.Entries.{alike_passed}
 use Rattle.lists.specs.Facts.{related}
 use Rattle.lists.specs.Tests.{related_interval, test6}

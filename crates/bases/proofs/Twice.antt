@@ -1,8 +1,5 @@
 -- Rounding twice with one base changes nothing more. Assumes nothing.
-use mathlib.Core.Path.{◌≡◌, refl, ap₂}
-use mathlib.Core.List.{List, [], ◌∷◌}
-use Prim.Native.Nat.{ℕ, zero, suc, ◌-◌, min}
-use native.Mathlib.Omega.{arith}
+use Rattle.std.proofs.Common.{◌≡◌, refl, ap₂, List, [], ◌∷◌, ℕ, zero, suc, ◌-◌, min, arith}
 use Rattle.logic.proofs.Tests.{by_lt}
 use Rattle.flows.specs.declared.flow.Flow.{Flow}
 use Rattle.bases.specs.Rounding.{rounded, rounded_flow, rounded_flows}

@@ -4,8 +4,7 @@ use Rattle.std.specs.Prelude.{Bool, List, map, ℕ, leb}
 use Rattle.logic.specs.Numbers.{among}
 use Rattle.flows.specs.declared.flow.Flow.{Flow}
 use Rattle.refusals.specs.declared.Refusal.TheVariants.{NoBase, BelowBase}
-use Rattle.refusals.specs.declared.Checked.{Checked}
-use Rattle.refusals.specs.declared.Written.{Written}
+use Rattle.refusals.specs.Results.{Checked, Written}
 use Rattle.refusals.specs.Tests.{◌⟫◌, unless, lowest}
 use Rattle.refusals.specs.Answers.{answer, written}
 use Rattle.lists.specs.Lists.{flows_of, list_of}

@@ -1,53 +1,49 @@
 // The stream of cases.
-ghost use Rattle.std.specs.Prelude.{◌≤◌};
+ghost use Rattle.std.specs.Prelude.{◌≤◌, length, IfOk};
 
 use std::io;
 use std::io::{ErrorKind, Read};
 
-// What is read where the stream stops: larger than any number in it, and than any room.
-pub const STOPPED: usize = usize::MAX;
-
-// The same number.
-fn wide(b: u8) -> usize
-    ensures { result ≤ 255 }
-{
-    b as usize
+// Why a case is not answered: reading or writing fails, or the stream stops inside the case or asks for more than there is.
+#[derive(Debug, Drop)]
+pub enum Fault {
+    Io(io::Error),
+    Broken,
 }
 
-// Fills the room, and answers whether the stream has so much.
-pub fn fill<R: Read>(from: &mut R, room: &mut [u8]) -> io::Result<bool> {
-    match from.read_exact(room) {
-        Ok(()) => Ok(true),
-        Err(e) => {
-            if e.kind() == ErrorKind::UnexpectedEof {
-                Ok(false)
-            } else {
-                Err(e)
-            }
+impl From<io::Error> for Fault {
+    fn from(e: io::Error) -> Fault {
+        if e.kind() == ErrorKind::UnexpectedEof {
+            Fault::Broken
+        } else {
+            Fault::Io(e)
         }
     }
 }
 
 // Four bytes of the stream as a number, most significant first.
-pub fn number<R: Read>(from: &mut R) -> io::Result<usize> {
-    let mut b = [0u8; 4];
-    if !fill(from, &mut b)? {
-        return Ok(STOPPED);
-    }
-    let high = wide(b[0]) * 256 + wide(b[1]);
-    let low = wide(b[2]) * 256 + wide(b[3]);
-    Ok(high * 65536 + low)
+pub fn number<R: Read>(from: &mut R) -> Result<u32, Fault> {
+    let mut bytes = [0u8; 4];
+    from.read_exact(&mut bytes)?;
+    Ok(u32::from_be_bytes(bytes))
 }
 
-// Reads a byte string into the front of the room, and answers its length, which is more than the room has where the string is
-// longer or the stream stops.
-pub fn string<R: Read>(from: &mut R, room: &mut [u8]) -> io::Result<usize> {
-    let n = number(from)?;
+// A number of the stream as a length, which is at most that of the room.
+pub fn length<R: Read>(from: &mut R, room: &[u8]) -> Result<usize, Fault>
+    ensures { IfOk result (λ n. n ≤ length room.now) }
+{
+    let n = number(from)? as usize;
     if room.len() < n {
-        return Ok(n);
+        return Err(Fault::Broken);
     }
-    if !fill(from, &mut room[0..n])? {
-        return Ok(STOPPED);
-    }
+    Ok(n)
+}
+
+// Reads a byte string into the front of the room, and answers its length.
+pub fn string<R: Read>(from: &mut R, room: &mut [u8]) -> Result<usize, Fault>
+    ensures { IfOk result (λ n. n ≤ length room.new) }
+{
+    let n = length(from, room)?;
+    from.read_exact(&mut room[..n])?;
     Ok(n)
 }

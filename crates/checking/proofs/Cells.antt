@@ -1,20 +1,16 @@
 -- What is kept in the cells of the flows: how many grants each has, or its last one. Assumes nothing.
-use mathlib.Core.Path.{◌≡◌, refl, sym, ap, ◌∙◌}
-use mathlib.Core.Bool.{true, false}
-use mathlib.Core.List.{List, [], ◌∷◌}
+use Rattle.std.proofs.Common.{◌≡◌, refl, sym, ap, ◌∙◌, true, false, List, [], ◌∷◌, ℕ, zero, suc, ◌+◌, ◌/◌, ◌≤◌, ◌<◌, arith, eqb, length, get_or, set, replicate, get_or-set_same, get_or-set_other}
 use mathlib.Core.Option.{some}
-use Prim.Native.Nat.{ℕ, zero, suc, ◌+◌, ◌≤◌, ◌<◌}
-use native.Mathlib.Omega.{arith}
-use lib.ListN.{length, get_or, set, replicate, get_or-replicate}
-use lib.Seq.{get_or-set_same, get_or-set_other}
+use lib.ListN.{get_or-replicate}
 use Rattle.logic.proofs.Tests.{by_eq, true-not-false}
 use Rattle.logic.proofs.Members.{mem_all, all_get_d}
 use Rattle.flows.specs.declared.flow.Flow.{Flow}
 use Rattle.flows.specs.Flows.{no_flow}
+use Rattle.lists.specs.Facts.{cycle, grants_of}
 use Rattle.lists.specs.Accepted.{Distinct}
 use Rattle.refusals.proofs.Walks.{before}
 use Rattle.tables.specs.declared.packed.Grant.{Grant}
-use Rattle.law.specs.Check.{known, nominal, last}
+use Rattle.law.specs.Check.{known, nominal, last, counted}
 use Rattle.law.specs.Law.{blank}
 use Rattle.law.proofs.Listed.{mem_known}
 use Rattle.checking.specs.Parts.{number_of, Counts, stamp_of}
@@ -69,6 +65,12 @@ module _ (fs : List Flow) (gs : List Grant) where
     counts_skip n k l =
         count-other gs (number_of fs k) i (get_or cs k 0) (a k l) h g e
         (λ p. true-not-false (sym (all_get_d (λ f. known fs f.number ≡ true) no_flow fs (mem_all (λ f. known fs f.number ≡ true) fs (mem_known fs)) k l) ∙ ap (known fs) (sym p) ∙ n))
+
+-- flow k has cycle / interval grants, as its cell says
+pub counted_is : (fs : List Flow) (gs : List Grant) (cs : List ℕ) (k : ℕ) (f : Flow) (c n : ℕ) → Counts fs gs cs → k < length fs → f ≡ get_or fs k no_flow → c ≡ cycle fs → n ≡ c / f.interval
+    → eqb (get_or cs k 0) n ≡ counted fs gs (get_or fs k no_flow)
+unfolding counted grants_of
+counted_is fs gs cs k f c n a h e p q = rw (a k h, q, p, e)
 
 -- ---- the last grant of each flow
 

@@ -1,11 +1,5 @@
 -- A table in which a walk finds no fault, and the counts of its flows. Assumes nothing.
-use mathlib.Core.Path.{◌≡◌, refl, sym, ap, ◌∙◌}
-use mathlib.Core.Bool.{true, ◌&&◌}
-use mathlib.Core.List.{List}
-use Prim.Native.Nat.{ℕ, ◌+◌, ◌-◌, ◌*◌, ◌/◌, ◌≤◌, ◌<◌}
-use native.Mathlib.Omega.{arith}
-use lib.Dec.{leb}
-use lib.ListN.{length, get_or, set, replicate}
+use Rattle.std.proofs.Common.{◌≡◌, refl, sym, ap, ◌∙◌, true, ◌&&◌, List, ℕ, ◌+◌, ◌-◌, ◌*◌, ◌/◌, ◌≤◌, ◌<◌, arith, leb, length, get_or, set, replicate}
 use borrow.Author.Tests.{eq-eqb}
 use Rattle.logic.proofs.Tests.{and_both}
 use Rattle.logic.proofs.Members.{mem_all, all_get_d, get_d_all}
@@ -13,7 +7,7 @@ use Rattle.flows.specs.declared.flow.Flow.{Flow}
 use Rattle.flows.specs.Flows.{no_flow, keeps}
 use Rattle.flows.proofs.Flows.{Keeps, keeps_is}
 use Rattle.refusals.specs.declared.Refusal.TheVariants.{GrantCount}
-use Rattle.refusals.specs.declared.Checked.TheVariants.{Passed}
+use Rattle.refusals.specs.Results.{Passed}
 use Rattle.refusals.proofs.Walks.{before}
 use Rattle.refusals.proofs.Entries.{each_passed}
 use Rattle.lists.specs.Facts.{occupies, cycle, grants_of}
@@ -22,7 +16,7 @@ use Rattle.lists.proofs.Cycle.{divides-cycle}
 use Rattle.tables.specs.declared.packed.Grant.{Grant}
 use Rattle.law.specs.Check.{look, listed, timely, counted, test15, tests14to18}
 use Rattle.law.specs.Law.{blank}
-use Rattle.checking.specs.declared.faults.Seen.{Seen}
+use Rattle.checking.specs.declared.seen.Seen.{Seen}
 use Rattle.checking.specs.Parts.{number_of, Steady, Spaced, Filled, on_time, tests_with}
 use Rattle.checking.proofs.Turns.{CountAt, count_none, count_end, count-own, count-other}
 use Rattle.checking.proofs.Cells.{apart, cells_next, zeros}
@@ -33,15 +27,15 @@ use Rattle.checking.proofs.Walked.{Walked, walked_next, walked_end}
 
 -- no fault is seen, and the last grant ends at e
 abbrev pub clean : ℕ → Seen
-clean e = record { unknown = 0; timing = 0; overlap = 0; past = 0; end = e }
+clean e = record { timing = Passed; overlap = Passed; past = Passed; end = e }
 
 module _ (fs : List Flow) (gs : List Grant) (i e : ℕ) (a : Walked fs gs i (clean e)) where
-  -- record i is a grant of flow f, and passes
+  -- record i is a grant of flow f, which ends at z, and passes
   pub clean-next : i < length gs → (g : Grant) → g ≡ get_or gs i blank → listed fs g ≡ true → (f : Flow) → f ≡ look fs g.flow → true ≡ timely 0 fs (before gs blank i) g
-      → (c : ℕ) → c ≡ cycle fs → leb e g.start && leb (g.start + occupies f) c ≡ true → Walked fs gs (i + 1) (clean (g.start + occupies f))
-  clean-next h g q k f l t c w b =
-      let both = and_both (leb e g.start) (leb (g.start + occupies f) c) b in
-      rw (both.0, both.1) at (walked_next fs gs i (clean e) a h g q k f l true t c w)
+      → (c : ℕ) → c ≡ cycle fs → (z : ℕ) → z ≡ g.start + occupies f → leb e g.start && leb z c ≡ true → Walked fs gs (i + 1) (clean z)
+  clean-next h g q k f l t c w z r b =
+      let both = and_both (leb e g.start) (leb z c) b in
+      rw r (rw (both.0, rw r at both.1) at (walked_next fs gs i (clean e) a h g q k f l true t c w))
 
   pub clean_end : length gs ≤ i → tests_with fs gs Passed ≡ Passed
   clean_end h = sym (walked_end fs gs i (clean e) a h Passed)

@@ -1,18 +1,29 @@
 -- What the code's own parts answer: what is kept for the flows, and what a walk over the grants notes. Assumes nothing.
-use Rattle.std.specs.Prelude.{◌≡◌, Bool, true, false, ◌&&◌, List, ℕ, zero, suc, ◌+◌, ◌-◌, ◌*◌, ◌≤◌, ◌<◌, leb, ltb, eqb, length, get_or}
+use Rattle.std.specs.Prelude.{◌≡◌, Bool, ◌&&◌, List, ℕ, zero, suc, ◌+◌, ◌-◌, ◌*◌, ◌≤◌, ◌<◌, leb, ltb, eqb, length, get_or, Result, Ok, Err}
 use Rattle.std.proofs.Math.Option.{Option, none, some}
 use Rattle.flows.specs.declared.flow.Flow.{Flow}
 use Rattle.flows.specs.Flows.{no_flow}
 use Rattle.refusals.specs.declared.Refusal.{Refusal}
-use Rattle.refusals.specs.declared.Refusal.TheVariants.{UnknownFlow, Timing, Overlap, PastCycle}
-use Rattle.refusals.specs.declared.Checked.{Checked}
-use Rattle.refusals.specs.declared.Checked.TheVariants.{Passed, Refused}
-use Rattle.refusals.specs.Tests.{◌⟫◌}
+use Rattle.refusals.specs.declared.Refusal.TheVariants.{Timing, Overlap, PastCycle}
+use Rattle.refusals.specs.Results.{Checked, Refused}
+use Rattle.refusals.specs.Tests.{◌⟫◌, unless}
+use Rattle.lists.specs.Lists.{flows_of}
 use Rattle.lists.specs.Facts.{occupies, cycle}
 use Rattle.tables.specs.declared.packed.Grant.{Grant}
-use Rattle.tables.specs.Tables.{cycle_of, frame_of}
-use Rattle.checking.specs.declared.faults.Seen.{Seen}
+use Rattle.tables.specs.Tables.{cycle_of, frame_of, grants_of}
+use Rattle.checking.specs.declared.pair.Pair.{Pair}
+use Rattle.checking.specs.declared.seen.Seen.{Seen}
 use Rattle.law.specs.Check.{to, test14, test16, test17, test18}
+
+-- ---- a list and a table
+
+-- the flows of the list
+abbrev pub flows_in : Pair → List Flow
+flows_in pair = flows_of pair.list.now
+
+-- the grants of the table
+abbrev pub grants_in : Pair → List Grant
+grants_in pair = grants_of pair.table.now
 
 -- ---- what is kept in the cells, one for each flow
 
@@ -61,32 +72,21 @@ on_time j i s start late = leb late j && (leb late start && steps_from i s (star
 abbrev pub belongs : ℕ → ℕ → List ℕ → Bool
 belongs c φ t = eqb (cycle_of t) c && eqb (frame_of t) φ
 
--- what a test says by the place that is noted for it: 0 is no fault
-abbrev pub noted : (ℕ → Refusal) → ℕ → Checked
-noted refusal zero = Passed
-noted refusal (suc p) = Refused (refusal (suc p))
-
--- the place that is noted after a record that passes or not
-abbrev pub note : ℕ → Bool → ℕ → ℕ
-note p true here = p
-note zero false here = here
-note (suc p) false here = suc p
-
 -- what is seen with a grant of a flow, which is timely or not, in a cycle of c slots
 abbrev pub next : Seen → Bool → Flow → Grant → ℕ → ℕ → Seen
 next s timely f g c here =
     let end = g.start + occupies f in
     record {
-      unknown = s.unknown;
-      timing = note s.timing timely here;
-      overlap = note s.overlap (leb s.end g.start) here;
-      past = note s.past (leb end c) here;
+      timing = s.timing ⟫ unless timely (Timing here);
+      overlap = s.overlap ⟫ unless (leb s.end g.start) (Overlap here);
+      past = s.past ⟫ unless (leb end c) (PastCycle here);
       end = end;
     }
 
--- what tests 14 to 18 say by what is seen, with what test 15 says
-abbrev pub answers : Seen → Checked → Checked
-answers s counts = noted UnknownFlow s.unknown ⟫ counts ⟫ noted Timing s.timing ⟫ noted Overlap s.overlap ⟫ noted PastCycle s.past
+-- what tests 14 to 18 say by a walk, which ends with the refusal of test 14 or with what is seen, and by what test 15 says
+abbrev pub answers : Result Seen Refusal → Checked → Checked
+answers (Err r) counts = Refused r
+answers (Ok s) counts = counts ⟫ s.timing ⟫ s.overlap ⟫ s.past
 
 -- tests 14 to 18 in their order, with what test 15 says
 abbrev pub tests_with : List Flow → List Grant → Checked → Checked

@@ -6,8 +6,5 @@ ghost use Rattle.checking.specs.Parts.{belongs};
 pub(crate) fn belongs(cycle: u16, frame: u16, table: &[u8]) -> bool
     ensures { result ≡ belongs cycle frame table.now }
 {
-    if tables::cycle(table) != cycle {
-        return false;
-    }
-    tables::frame(table) == frame
+    tables::cycle(table) == cycle && tables::frame(table) == frame
 }

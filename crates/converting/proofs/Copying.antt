@@ -1,30 +1,19 @@
 -- The flows of one call, which differ in their numbers alone: tested at once and written one behind the other. Assumes nothing.
-use mathlib.Core.Path.{◌≡◌, refl, sym, ap, ◌∙◌}
-use mathlib.Core.Bool.{true, false}
-use mathlib.Core.List.{List, ◌∷◌, map}
-use Prim.Native.Nat.{ℕ, zero, suc, ◌+◌, ◌-◌, ◌/◌, ◌≤◌, ◌<◌}
-use native.Mathlib.Omega.{arith}
-use lib.ListN.{length}
-use lib.Seq.{sets}
-use borrow.Author.Tests.{le-leb}
+use Rattle.std.proofs.Common.{◌≡◌, true, false, Some, None, List, ◌∷◌, map, ℕ, zero, suc, ◌+◌, ◌-◌, ◌≤◌, ◌<◌, length, refl, sym, ap, ◌∙◌, arith, le-leb}
+use Rattle.std.proofs.lemmas.List.Edits.{sets}
 use Rattle.logic.proofs.Tests.{true-not-false}
 use Rattle.flows.specs.declared.flow.Flow.{Flow}
-use Rattle.flows.specs.Flows.{keeps, new_flow}
+use Rattle.flows.specs.Flows.{keeps, asked}
 use Rattle.flows.proofs.Flows.{keeps_is}
+use Rattle.flows.proofs.Asking.{asked_kept, asked-broken}
 use Rattle.refusals.specs.declared.Refusal.TheVariants.{Field}
-use Rattle.refusals.specs.declared.Checked.TheVariants.{Passed, Refused}
+use Rattle.refusals.specs.Results.{Passed, Refused}
 use Rattle.refusals.specs.Tests.{lowest}
 use Rattle.lists.specs.Lists.{place, records, record_after}
 use Rattle.lists.proofs.Writing.{records-none, record_next}
 use Rattle.settings.specs.declared.Call.{Call}
-use Rattle.settings.specs.Slots.{Channel, amount, rounded_up, flow_for, flows_for}
+use Rattle.settings.specs.Slots.{Channel, flow_for, flows_for}
 use Rattle.converting.specs.Parts.{renumbered, copies, Copied, CallWritten}
-
--- the first, out of its three numbers
-pub first_made : (ch : Channel) (c : Call) (z i j : ℕ) → z ≡ rounded_up (amount c.size) ch.bytes → i ≡ amount c.interval / ch.microseconds
-    → j ≡ amount c.jitter / ch.microseconds → new_flow 1 z i j ≡ flow_for ch 1 c
-unfolding flow_for
-first_made ch c z i j ez ei ej = rw (ez, ei, ej)
 
 -- the flows of a call are copies of its first
 pub for_copies : (ch : Channel) (c : Call) (n k : ℕ) → flows_for ch n c k ≡ copies (flow_for ch 1 c) n k
@@ -64,12 +53,12 @@ module _ (f : Flow) (n k : ℕ) (before : List ℕ) where
   pub copy_start : CopyAt f n k before n before
   copy_start =
       let all : (n + k) - n ≡ k = omega arith in
-      record { to = omega arith; same = refl; writes = λ e h. ap (λ (m : ℕ). sets before (place n) (records (copies f (suc n) m))) all }
+      record { to = omega arith; same = refl; writes = λ e h. rw all }
 
   module _ (first : f.number ≡ 1) (few : n + k ≤ 129) (i : ℕ) (list : List ℕ) (at : CopyAt f n k before i list) where
-    pub copy-next : i < n + k → (g : Flow) → g ≡ renumbered (i + 1) f → (new : List ℕ) → length new ≡ length list → new ≡ record_after g i list → CopyAt f n k before (i + 1) new
+    pub copy_next : i < n + k → (g : Flow) → g ≡ renumbered (i + 1) f → (new : List ℕ) → length new ≡ length list → new ≡ record_after g i list → CopyAt f n k before (i + 1) new
     unfolding copies
-    copy-next h g eg new l w =
+    copy_next h g eg new l w =
         let m : ℕ = (n + k) - (i + 1) in
         let left : (n + k) - i ≡ suc m = omega arith in
         let rest : List Flow = copies f (suc (suc i)) m in
@@ -79,12 +68,7 @@ module _ (f : Flow) (n k : ℕ) (before : List ℕ) where
           same = l ∙ at.same;
           writes = λ e room.
               let is : keeps g ≡ true = ap keeps eg ∙ keeps-copy f first (i + 1) (omega arith) (omega (arith, h, few)) ∙ e in
-              ap (λ (j : ℕ). sets new (place (i + 1)) (records (copies f (suc j) m))) next
-              ∙ ap (λ (r : List ℕ). sets r (place (i + 1)) (records rest)) w
-              ∙ record_next g rest i list (keeps_is g is) (omega (arith, h, room, at.same))
-              ∙ ap (λ (x : Flow). sets list (place i) (records (x ∷ rest))) (eg ∙ ap (λ (j : ℕ). renumbered j f) next)
-              ∙ ap (λ (j : ℕ). sets list (place i) (records (copies f (suc i) j))) (sym left)
-              ∙ at.writes e room;
+              cc (record_next g rest i list (keeps_is g is) (omega (arith, h, room, at.same)), at.writes e room);
         }
 
     pub copy_end : n + k ≤ i → Copied f n k before list
@@ -93,8 +77,7 @@ module _ (f : Flow) (n k : ℕ) (before : List ℕ) where
         let none : (n + k) - i ≡ 0 = omega arith in
         record {
           same = at.same;
-          copied = λ e room.
-              ap (sets list (place i)) (sym records-none) ∙ ap (λ (j : ℕ). sets list (place i) (records (copies f (suc i) j))) (sym none) ∙ at.writes e room;
+          copied = λ e room. rw (none, records-none) at (at.writes e room);
         }
 
 -- ---- a call
@@ -105,29 +88,33 @@ module _ (ch : Channel) (c : Call) (n k : ℕ) (before : List ℕ) where
   unfolding flows_for lowest records
   call_none e = rw e (record { same = refl; tested = λ h. refl; written = λ t h. refl })
 
-  -- the flows are copies of the first, whose number is 1
-  numbered : (flow_for ch 1 c).number ≡ 1
-  unfolding flow_for
-  numbered = refl
+  module _ (few : n + k ≤ 129) where
+    -- whose flow breaks its rule
+    pub call_broken : 0 < k → None ≡ asked (flow_for ch 1 c) → CallWritten ch c n k before false before
+    unfolding flow_for
+    call_broken some none =
+        record {
+          same = refl;
+          tested = λ h. rw (for_copies ch c (suc n) k)
+              (copies-broken (flow_for ch 1 c) refl (suc n) k (omega arith) (omega (arith, few)) some (asked-broken _ (sym none)));
+          written = λ t h. true-not-false (sym t);
+        }
 
-  -- that breaks its rule
-  pub call-broken : 0 < k → n + k ≤ 129 → keeps (flow_for ch 1 c) ≡ false → CallWritten ch c n k before false before
-  call-broken some few e =
-      record {
-        same = refl;
-        tested = λ h. ap (λ (fs : List Flow). lowest Field (suc n) (map keeps fs)) (for_copies ch c (suc n) k)
-            ∙ copies-broken (flow_for ch 1 c) numbered (suc n) k (omega arith) (omega (arith, few)) some e;
-        written = λ t h. true-not-false (sym t);
-      }
+    module _ (f : Flow) (kept : Some f ≡ asked (flow_for ch 1 c)) where
+      flow_is : flow_for ch 1 c ≡ f
+      flow_is = (asked_kept _ f (sym kept)).0
 
-  -- that keeps it
-  pub call_kept : (f : Flow) → flow_for ch 1 c ≡ f → keeps (flow_for ch 1 c) ≡ true → n + k ≤ 129 → (after : List ℕ) → Copied f n k before after
-      → CallWritten ch c n k before true after
-  call_kept f is e few after w =
-      let own : copies f (suc n) k ≡ flows_for ch (suc n) c k = ap (λ (g : Flow). copies g (suc n) k) (sym is) ∙ sym (for_copies ch c (suc n) k) in
-      record {
-        same = w.same;
-        tested = λ h. ap (λ (fs : List Flow). lowest Field (suc n) (map keeps fs)) (for_copies ch c (suc n) k)
-            ∙ copies_kept (flow_for ch 1 c) numbered (suc n) k (omega arith) (omega (arith, few)) e;
-        written = λ t h. w.copied (ap keeps (sym is) ∙ e) h ∙ ap (λ (fs : List Flow). sets before (place n) (records fs)) own;
-      }
+      -- whose flow keeps it: it is copied
+      pub call_first : (f.number ≡ 1) × (n + k ≤ 129)
+      unfolding flow_for
+      call_first = (ap (λ (g : Flow). g.number) (sym flow_is), few)
+
+      pub call_kept : (after : List ℕ) → Copied f n k before after → CallWritten ch c n k before true after
+      call_kept after w =
+          let own : flows_for ch (suc n) c k ≡ copies f (suc n) k = rw (for_copies ch c (suc n) k, flow_is) in
+          let keeps_rule : keeps f ≡ true = ap keeps (sym flow_is) ∙ (asked_kept _ f (sym kept)).1 in
+          record {
+            same = w.same;
+            tested = λ h. rw own (copies_kept f call_first.0 (suc n) k (omega arith) (omega (arith, few)) keeps_rule);
+            written = λ t h. rw own (w.copied keeps_rule h);
+          }

@@ -1,5 +1,5 @@
-pub mod Standing
 pub mod Values
+pub mod Standing
 pub mod Hearing
 pub mod Sounding
 pub mod Copying

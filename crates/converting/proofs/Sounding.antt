@@ -1,68 +1,56 @@
--- An encoding is sound exactly where none of the four is heard to be bad. Assumes nothing.
-use mathlib.Core.Path.{◌≡◌, refl, sym}
-use mathlib.Core.Bool.{true}
-use mathlib.Core.List.{List, []}
-use Prim.Native.Nat.{ℕ, ◌+◌, ◌-◌}
-use native.Mathlib.Omega.{arith}
-use lib.Dec.{eqb}
-use lib.ListN.{take, drop}
-use borrow.Author.Tests.{eq-eqb, ne_eqb}
+-- What is read at a run's front is what the encoding there asks for, exactly where it is sound. Assumes nothing.
+use Rattle.std.proofs.Common.{◌≡◌, true, false, List, [], ◌∷◌, ℕ, Some, None, refl, eq-eqb, ne_eqb, ◌∙◌, sym}
+use Rattle.std.proofs.lemmas.Option.{none-some, cond_some}
 use Rattle.logic.specs.Lists.{every}
-use Rattle.logic.proofs.Tests.{by_test, true-not-false}
-use Rattle.settings.specs.declared.Said.TheVariants.{Is}
+use Rattle.logic.proofs.Tests.{by_test}
 use Rattle.settings.specs.declared.Call.{Call}
 use Rattle.settings.specs.Runs.{Item, holds, broken, items, whole}
-use Rattle.settings.specs.Encodings.{upstream, good, all_four, call, sound}
-use Rattle.converting.specs.declared.items.ItemAt.TheVariants.{Holds, Broken}
-use Rattle.converting.specs.declared.encodings.Question.{Question}
-use Rattle.converting.specs.declared.encodings.Question.TheVariants.{Good, Present}
-use Rattle.converting.specs.Parts.{Stands, heard, heard_item, spoilt, Reads, asks}
+use Rattle.settings.specs.Encodings.{upstream, good, all_four, call_of, call, sound}
+use Rattle.converting.specs.Parts.{Front, heard, Sound, Unsound}
 
--- a number that is said passes whatever is asked
-pub number-passes : (q : Question) (n : ℕ) → true ≡ asks q (Is n)
-number-passes Good n = refl
-number-passes Present n = refl
+-- a broken item is no sound encoding
+pub unsound_broken : (s : List ℕ) → items s ≡ broken ∷ [] → Unsound s
+unfolding sound
+unsound_broken s e = record { item = broken; rest = []; stands = e; unsound = refl }
 
-pub sound_exactly : (i : Item) → all_four good (heard_item i) ≡ sound i
-unfolding all_four heard call sound
-sound_exactly (holds t v) =
-    by_test (eqb t upstream)
-    (λ e. by_test (every whole (items v)) (λ w. rw (e, w)) (λ w. rw (e, w)))
-    (λ e. rw e)
-sound_exactly broken = refl
+-- settings that are heard are those of the encoding, and none of them is broken
+heard_none : (is : List Item) → None ≡ heard is → every whole is ≡ false
+unfolding heard
+heard_none is e = by_test (every whole is) (λ t. absurd (none-some (call_of is) (rw t at e))) (λ t. t)
 
--- then it is whole, and what is heard is what it asks for
-pub sound-heard : (i : Item) → sound i ≡ true → (whole i ≡ true) × (heard_item i ≡ call i)
-unfolding heard call sound
-sound-heard (holds t v) s =
-    by_test (eqb t upstream)
-    (λ e. by_test (every whole (items v)) (λ w. (refl, rw (e, w))) (λ w. true-not-false (sym (rw (e, w) at s))))
-    (λ e. true-not-false (sym (rw e at s)))
-sound-heard broken s = true-not-false (sym s)
+heard_some : (is : List Item) (c : Call) → Some c ≡ heard is → (every whole is ≡ true) × (call_of is ≡ c)
+unfolding heard
+heard_some is c e = cond_some (every whole is) (call_of is) c (sym e)
 
--- ---- what is read at a place, by what stands there
+module _ (s : List ℕ) (t : ℕ) (v rest : List ℕ) (front : Front s t v rest) where
+  -- nor is an item of another type
+  pub unsound_other : (t ≡ upstream → ⊥) → Unsound s
+  unfolding sound
+  unsound_other n = record { item = holds t v; rest = items rest; stands = front.0; unsound = rw (ne_eqb t upstream n) }
 
-module _ (s : List ℕ) (at : ℕ) where
-  pub reads_broken : Stands s at Broken → (e : ℕ) → Reads s at (record { call = spoilt; end = e })
-  reads_broken i e = record { item = broken; rest = []; stands = i; asks = refl; behind = λ w. true-not-false (sym w) }
+  module _ (u : t ≡ upstream) where
+    -- nor one that holds a broken setting
+    pub unsound_setting : None ≡ heard (items v) → Unsound s
+    unfolding sound
+    unsound_setting n =
+        record { item = holds t v; rest = items rest; stands = front.0; unsound = rw (eq-eqb t upstream u, heard_none (items v) n) }
 
-  module _ (t e : ℕ) (i : Stands s at (Holds t e)) where
-    pub reads_other : (t ≡ upstream → ⊥) → Reads s at (record { call = spoilt; end = e })
-    reads_other n =
-        record {
-          item = holds t (take (e - (at + 2)) (drop (at + 2) s));
-          rest = items (drop e s);
-          stands = i.2;
-          asks = rw (ne_eqb t upstream n);
-          behind = λ w. (omega (arith, i.0), i.1, refl);
-        }
+    module _ (c : Call) (h : Some c ≡ heard (items v)) where
+      is_sound : sound (holds t v) ≡ all_four good c
+      unfolding sound call
+      is_sound = let w = heard_some (items v) c h in rw (eq-eqb t upstream u, w.0, w.1)
 
-    pub reads_upstream : t ≡ upstream → (c : Call) → c ≡ heard (items (take (e - (at + 2)) (drop (at + 2) s))) → Reads s at (record { call = c; end = e })
-    reads_upstream u c h =
-        record {
-          item = holds t (take (e - (at + 2)) (drop (at + 2) s));
-          rest = items (drop e s);
-          stands = i.2;
-          asks = rw (eq-eqb t upstream u) h;
-          behind = λ w. (omega (arith, i.0), i.1, refl);
-        }
+      -- nor one of whose four is bad
+      pub unsound_bad : all_four good c ≡ false → Unsound s
+      unsound_bad g = record { item = holds t v; rest = items rest; stands = front.0; unsound = is_sound ∙ g }
+
+      pub sound_front : all_four good c ≡ true → Sound s c rest
+      unfolding call
+      sound_front g =
+          record {
+            item = holds t v;
+            stands = front.0;
+            shorter = front.1;
+            sound = is_sound ∙ g;
+            asks = sym (heard_some (items v) c h).1;
+          }

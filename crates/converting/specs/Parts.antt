@@ -1,35 +1,26 @@
 -- What the code's own parts ask and answer. Assumes nothing.
-use Rattle.std.specs.Prelude.{◌≡◌, Bool, true, cond, List, [], ◌∷◌, map, ℕ, zero, suc, ◌+◌, ◌-◌, ◌/◌, ◌%◌, ◌≤◌, ◌<◌, eqb, length, take, drop}
+use Rattle.std.specs.Prelude.{◌≡◌, Bool, true, false, cond, List, [], ◌∷◌, map, ℕ, zero, suc, ◌+◌, ◌%◌, ◌≤◌, ◌<◌, eqb, length, Option, Some, None, Result, Ok, Err}
 use Rattle.std.proofs.lemmas.List.Edits.{sets}
 use Rattle.logic.specs.Lists.{every}
 use Rattle.flows.specs.declared.flow.Flow.{Flow}
 use Rattle.flows.specs.Flows.{keeps}
+use Rattle.refusals.specs.declared.Refusal.{Refusal}
 use Rattle.refusals.specs.declared.Refusal.TheVariants.{Field}
-use Rattle.refusals.specs.declared.Checked.{Checked}
-use Rattle.refusals.specs.declared.Checked.TheVariants.{Passed, Refused}
+use Rattle.refusals.specs.Results.{Checked, Passed}
 use Rattle.refusals.specs.Tests.{◌⟫◌, unless, lowest}
 use Rattle.lists.specs.Lists.{place, records}
 use Rattle.lists.specs.Tests.{test3, test4}
 use Rattle.settings.specs.declared.Said.{Said}
 use Rattle.settings.specs.declared.Said.TheVariants.{Missing, Is, Bad}
 use Rattle.settings.specs.declared.Call.{Call}
-use Rattle.settings.specs.Runs.{Item, holds, broken, items, whole}
-use Rattle.settings.specs.Encodings.{good, present, upstream, grant_size, nominal_interval, tolerated_jitter, grants_per_interval, said, call_of}
-use Rattle.settings.specs.Slots.{Channel, amount, rounded_up, flows_for, flows_asked}
+use Rattle.settings.specs.Runs.{Item, holds, items, whole}
+use Rattle.settings.specs.Encodings.{grant_size, nominal_interval, tolerated_jitter, grants_per_interval, said, call_of, call, sound}
+use Rattle.settings.specs.Slots.{Channel, amount, flows_for, flows_asked}
 use Rattle.settings.specs.Tests.{test23, test24, test25}
-use Rattle.converting.specs.declared.items.ItemAt.{ItemAt}
-use Rattle.converting.specs.declared.items.ItemAt.TheVariants.{Holds, Broken}
-use Rattle.converting.specs.declared.encodings.EncodingAt.{EncodingAt}
-use Rattle.converting.specs.declared.encodings.Question.{Question}
-use Rattle.converting.specs.declared.encodings.Question.TheVariants.{Good, Present}
-use Rattle.converting.specs.declared.survey.Survey.{Survey}
-use Rattle.converting.specs.declared.survey.Survey.TheVariants.{Flows, Refused as Faulty}
 
--- what stands at a place of a run, inside it: an item that ends inside, and the rest behind it; or a broken one
-abbrev pub Stands : List ℕ → ℕ → ItemAt → Type 0
-Stands s at (Holds t e) =
-    (at + 2 ≤ e) × (e ≤ length s) × (items (drop at s) ≡ holds t (take (e - (at + 2)) (drop (at + 2) s)) ∷ items (drop e s))
-Stands s at Broken = items (drop at s) ≡ broken ∷ []
+-- an item stands at a run's front, by its type and its value, and the rest behind it
+abbrev pub Front : List ℕ → ℕ → List ℕ → List ℕ → Type 0
+Front s t v rest = (items s ≡ holds t v ∷ items rest) × (length rest < length s)
 
 -- what two runs of settings say for one of the four, one behind the other
 abbrev pub also : Said → Said → Said
@@ -53,42 +44,31 @@ with_item c t v =
       grants = also c.grants (one (eqb t grants_per_interval) 1 v);
     }
 
--- all four are bad
-abbrev pub spoilt : Call
-spoilt = record { size = Bad; interval = Bad; jitter = Bad; grants = Bad }
+-- what settings ask for; nothing where one of them is broken
+unfoldable pub heard : List Item → Option Call
+heard is = cond (every whole is) (Some (call_of is)) None
 
--- what settings ask for; all four are bad where a setting is broken
-unfoldable pub heard : List Item → Call
-heard is = cond (every whole is) (call_of is) spoilt
+-- a sound encoding stands at a run's front and asks for c, and the rest behind it
+pub record Sound (s : List ℕ) (c : Call) (rest : List ℕ) : Type 0 where
+  pub item : Item
+  pub stands : items s ≡ item ∷ items rest
+  pub shorter : length rest < length s
+  pub sound : sound item ≡ true
+  pub asks : c ≡ call item
 
--- what an item at the top asks for; all four are bad where it is broken or of another type
-abbrev pub heard_item : Item → Call
-heard_item (holds t v) = cond (eqb t upstream) (heard (items v)) spoilt
-heard_item broken = spoilt
-
--- what is read at a place of a run, inside it: what the item there asks for and, if it is whole, the place behind it
-pub record Reads (s : List ℕ) (at : ℕ) (r : EncodingAt) : Type 0 where
+-- an encoding that is not sound stands there
+pub record Unsound (s : List ℕ) : Type 0 where
   pub item : Item
   pub rest : List Item
-  pub stands : items (drop at s) ≡ item ∷ rest
-  pub asks : r.call ≡ heard_item item
-  pub behind : whole item ≡ true → (at < r.end) × (r.end ≤ length s) × (rest ≡ items (drop r.end s))
-
--- what is asked of each of the four
-abbrev pub asks : Question → (Said → Bool)
-asks Good = good
-asks Present = present
+  pub stands : items s ≡ item ∷ rest
+  pub unsound : sound item ≡ false
 
 -- the call's interval is a whole number of slots
 abbrev pub is_whole : ℕ → Call → Bool
 is_whole microseconds c = eqb (amount c.interval % microseconds) 0
 
--- the amount a in units of b, rounded up or down
-abbrev pub rounded : ℕ → ℕ → Bool → ℕ
-rounded a b up = cond up (rounded_up a b) (a / b)
-
 -- how many of g flows are taken, where there are n: all, unless they make 129
-pub record Some (n g r : ℕ) : Type 0 where
+pub record Taken (n g r : ℕ) : Type 0 where
   pub no_more : r ≤ g
   pub inside : n + r ≤ 129
   pub all : n + r ≤ 128 → r ≡ g
@@ -118,12 +98,12 @@ unfoldable pub read_tests : Channel → List ℕ → Checked
 read_tests ch s = test23 s ⟫ test24 s ⟫ test25 ch s ⟫ test3 (length (flows_asked ch s)) ⟫ test4 (flows_asked ch s)
 
 -- how many flows there are where the tests pass
-abbrev pub counted : Checked → ℕ → Survey
-counted Passed n = Flows n
-counted (Refused r) n = Faulty r
+abbrev pub counted : Checked → ℕ → Result ℕ Refusal
+counted (Ok tt) n = Ok n
+counted (Err r) n = Err r
 
 -- what looking through the run finds
-unfoldable pub survey_of : Channel → List ℕ → Survey
+unfoldable pub survey_of : Channel → List ℕ → Result ℕ Refusal
 survey_of ch s = counted (read_tests ch s) (length (flows_asked ch s))
 
 -- where the run passes, the records of its flows stand in what was `before`, behind the place of a list's head

@@ -1,26 +1,17 @@
-// An item of a run, where it stands.
-ghost use Rattle.std.specs.Prelude.{◌<◌, length};
-ghost use Rattle.converting.specs.Parts.{Stands};
+// An item of a run, read from the run's front.
+ghost use Rattle.std.specs.Prelude.{◌≡◌, ◌<◌, List, [], ◌∷◌, length, MatchOption};
+ghost use Rattle.settings.specs.Runs.{Item, broken, items};
+ghost use Rattle.converting.specs.Parts.{Front};
 
-// What stands at a place of a run: an item, by its type and the place behind its value, or a broken one.
-#[derive(Clone, Copy)]
-pub enum ItemAt {
-    Holds(u8, usize),
-    Broken,
-}
-
-// The item at a place of a run: a byte for its type, a byte for its length, and its value.
-pub(crate) fn item_at(run: &[u8], at: usize) -> ItemAt
-    requires { at < length run.now }
-    ensures { Stands run.now at result }
+// The item at a run's front, by its type and its value, and the run behind it; nothing where the item is broken. It has a byte for
+// its type, a byte for its length, and its value.
+#[tactic(auto, using(crate::proofs::Standing::front_odd, crate::proofs::Standing::front_past, crate::proofs::Standing::front_holds))]
+pub(crate) fn next_item(run: &[u8]) -> Option<(u8, &[u8], &[u8])>
+    requires { 0 < length run.now }
+    ensures { MatchOption result (items run.now ≡ broken ∷ []) (λ p. Front run.now p.0 p.1.now p.2.now) }
 {
-    let left = run.len() - at;
-    if left < 2 {
-        return ItemAt::Broken;
-    }
-    let size = run[at + 1] as usize;
-    if left - 2 < size {
-        return ItemAt::Broken;
-    }
-    ItemAt::Holds(run[at], at + 2 + size)
+    let (kind, rest) = run.split_first()?;
+    let (size, rest) = rest.split_first()?;
+    let (value, behind) = rest.split_at_checked(usize::from(*size))?;
+    Some((*kind, value, behind))
 }

@@ -1,79 +1,91 @@
-// A call in bytes and microseconds, turned into flows in slots.
+// A slot of the channel, and calls in bytes and microseconds turned into flows in slots.
 ghost use Rattle.std.specs.Prelude.{◌≡◌, ◌+◌, ◌≤◌, ◌<◌, length};
-ghost use Rattle.flows.specs.Flows.{asked};
-ghost use Rattle.settings.specs.Slots.{amount, channel, flow_for};
-ghost use Rattle.converting.specs.Parts.{is_whole, rounded, Some, Copied, CallWritten};
+ghost use Rattle.settings.specs.Slots.{amount};
+ghost use Rattle.converting.specs.Parts.{Copied, Taken};
 
-use flows::{Asked, Flow, new_flow};
-use settings::{Call, Said};
+use flows::{Flow, new_flow};
+use refusals::{Refusal, unless};
+use settings::Call;
 
 // One more than the flows that a list may have.
 const TOO_MANY: usize = 129;
 
-// The number that is said; 0 where none is.
-fn amount(said: Said) -> u64
-    ensures { (result ≡ amount said) × (result < 4294967296) }
-{
-    match said {
-        Said::Missing => 0,
-        Said::Is(v) => v as u64,
-        Said::Bad => 0,
-    }
+// A slot of the channel: how many microseconds it lasts and how many bytes it carries, neither of them zero.
+#[derive(Clone, Copy)]
+pub(crate) struct Slot {
+    microseconds: u64,
+    bytes: u64,
+    ghost lasts: { 0 < microseconds },
+    ghost carries: { 0 < bytes },
 }
 
-// The interval is a whole number of slots.
-pub(crate) fn is_whole(call: Call, microseconds: u64) -> bool
-    requires { 0 < microseconds }
-    ensures { result ≡ is_whole microseconds call }
-{
-    let interval = call.interval;
-    amount(interval) % microseconds == 0
-}
+impl Slot {
+    ghost use Rattle.std.specs.Prelude.{MatchResult};
+    ghost use Rattle.flows.specs.Flows.{asked};
+    ghost use Rattle.refusals.specs.Results.{Passed, Refused};
+    ghost use Rattle.settings.specs.Slots.{channel, flow_for};
+    ghost use Rattle.settings.specs.Tests.{test26};
+    ghost use Rattle.converting.specs.Parts.{is_whole, CallWritten};
 
-// The amount a in units of b, rounded up or down.
-fn rounded(a: u64, b: u64, up: bool) -> u64
-    requires { (a < 4294967296) × (0 < b) }
-    ensures { result ≡ rounded a b up }
-{
-    let whole = a / b;
-    if !up {
-        return whole;
+    // The slot of this many microseconds and bytes, which test 26 refuses where one of them is zero.
+    #[tactic(auto, unfolding(settings::specs::Tests::test26))]
+    pub(crate) fn new(microseconds: u64, bytes: u64) -> Result<Slot, Refusal>
+        ensures { MatchResult result
+            (λ s. (channel s.microseconds s.bytes ≡ channel microseconds bytes) × (test26 (channel microseconds bytes) ≡ Passed))
+            (λ r. test26 (channel microseconds bytes) ≡ Refused r) }
+    {
+        unless(0 < microseconds && 0 < bytes, Refusal::NoChannel)?;
+        Ok(Slot {
+            microseconds,
+            bytes,
+        })
     }
-    if a % b == 0 {
-        return whole;
-    }
-    whole + 1
-}
 
-// The flow of a call, by the number 1, if it keeps its rule: the size rounds up, the jitter rounds down.
-fn flow_of(call: Call, microseconds: u64, bytes: u64) -> Asked
-    requires { (0 < microseconds) × (0 < bytes) }
-    ensures { result ≡ asked (flow_for (channel microseconds bytes) 1 call) }
-{
-    let size = call.size;
-    let interval = call.interval;
-    let jitter = call.jitter;
-    let s = rounded(amount(size), bytes, true);
-    let i = rounded(amount(interval), microseconds, false);
-    let j = rounded(amount(jitter), microseconds, false);
-    new_flow(1, s, i, j)
+    // The call's interval is a whole number of slots.
+    pub(crate) fn is_whole(self, call: Call) -> bool
+        ensures { result ≡ is_whole self.microseconds call }
+    {
+        u64::from(call.interval.amount()) % self.microseconds == 0
+    }
+
+    // The flow of a call, by the number 1, if it keeps its rule: the size rounds up, the jitter rounds down.
+    #[tactic(auto, unfolding(settings::specs::Slots::flow_for, settings::specs::Slots::rounded_up))]
+    fn flow_of(self, call: Call) -> Option<Flow>
+        ensures { result ≡ asked (flow_for (channel self.microseconds self.bytes) 1 call) }
+    {
+        let size = u64::from(call.size.amount()).div_ceil(self.bytes);
+        let interval = u64::from(call.interval.amount()) / self.microseconds;
+        let jitter = u64::from(call.jitter.amount()) / self.microseconds;
+        new_flow(1, size, interval, jitter)
+    }
+
+    // Writes the k flows that a call makes into the list as its records from n on, if they keep their rule, and answers whether they do.
+    pub(crate) fn write_call(self, call: Call, n: usize, k: usize, list: &mut [u8]) -> bool
+        requires { n + k ≤ 129 }
+        ensures { CallWritten (channel self.microseconds self.bytes) call n k list.old result list.new }
+    {
+        if k == 0 {
+            return true;
+        }
+        let Some(flow) = self.flow_of(call) else {
+            return false;
+        };
+        write_copies(flow, n, k, list);
+        true
+    }
 }
 
 // How many flows more a call makes where there are n: one for each of its grants, but no more than make too many.
 pub(crate) fn more(n: usize, call: Call) -> usize
     requires { n ≤ 129 }
-    ensures { Some n (amount call.grants) result }
+    ensures { Taken n (amount call.grants) result }
 {
-    let grants = call.grants;
-    let g = amount(grants);
-    let left = TOO_MANY - n;
-    if (left as u64) < g {
-        return left;
-    }
-    g as usize
+    (call.grants.amount() as usize).min(TOO_MANY - n)
 }
 
-// Writes k flows like f, whose number is 1, into the list as its records from n on, numbered as they come.
+// Writes k flows like f, whose number is 1, into the list as its records from n on, numbered as they come. A record for which there
+// is no room is left out.
+#[tactic(auto, using(crate::proofs::Copying::copy_start, crate::proofs::Copying::copy_next, crate::proofs::Copying::copy_end))]
 fn write_copies(f: Flow, n: usize, k: usize, list: &mut [u8])
     requires { (f.number ≡ 1) × (n + k ≤ 129) }
     ensures { Copied f n k list.old list.new }
@@ -81,33 +93,8 @@ fn write_copies(f: Flow, n: usize, k: usize, list: &mut [u8])
     for i in n..n + k {
         let copy = Flow {
             number: (i + 1) as u16,
-            size: f.size,
-            interval: f.interval,
-            jitter: f.jitter,
+            ..f
         };
-        lists::write_record(copy, i, list);
+        let _ = lists::write_record(copy, i, list);
     }
-}
-
-// Writes the k flows that a call makes into the list as its records from n on, if they keep their rule, and answers whether they do.
-pub(crate) fn write_call(
-    call: Call,
-    microseconds: u64,
-    bytes: u64,
-    n: usize,
-    k: usize,
-    list: &mut [u8],
-) -> bool
-    requires { (0 < microseconds) × (0 < bytes) × (n + k ≤ 129) }
-    ensures { CallWritten (channel microseconds bytes) call n k list.old result list.new }
-{
-    if k == 0 {
-        return true;
-    }
-    let asked = flow_of(call, microseconds, bytes);
-    let Asked::Kept(f) = asked else {
-        return false;
-    };
-    write_copies(f, n, k, list);
-    true
 }

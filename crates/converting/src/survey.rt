@@ -5,69 +5,52 @@ ghost use Rattle.lists.specs.Tests.{test3};
 ghost use Rattle.settings.specs.Slots.{channel};
 ghost use Rattle.converting.specs.Parts.{counted, survey_of, Recorded};
 
-use crate::encodings::{Question, all_four, encoding_at};
-use crate::slots::{is_whole, more, write_call};
+use crate::encodings::next_encoding;
+use crate::slots::{Slot, more};
 use lists::few;
-use refusals::{Checked, Refusal, noted};
-
-// What looking through a run finds: how many flows it asks for where it passes, or the first refusal.
-#[derive(Clone, Copy)]
-pub enum Survey {
-    Flows(usize),
-    Refused(Refusal),
-}
+use refusals::{Refusal, noted, unless};
 
 // What tests 24, 25, 3 and 4 say in their order, where there are n flows.
-fn answered(missing: Checked, uneven: Checked, n: usize, rules: Checked) -> Survey
+#[tactic(auto, unfolding(lists::specs::Tests::test3))]
+fn answered(
+    missing: Result<(), Refusal>,
+    uneven: Result<(), Refusal>,
+    n: usize,
+    rules: Result<(), Refusal>,
+) -> Result<usize, Refusal>
     ensures { result ≡ counted (missing ⟫ uneven ⟫ test3 n ⟫ rules) n }
 {
-    if let Checked::Refused(r) = missing {
-        return Survey::Refused(r);
-    }
-    if let Checked::Refused(r) = uneven {
-        return Survey::Refused(r);
-    }
-    if !few(n) {
-        return Survey::Refused(Refusal::Count);
-    }
-    if let Checked::Refused(r) = rules {
-        return Survey::Refused(r);
-    }
-    Survey::Flows(n)
+    missing?;
+    uneven?;
+    unless(few(n), Refusal::Count)?;
+    rules?;
+    Ok(n)
 }
 
-// Tests 23, 24, 25, 3 and 4 in their order. The first encoding at fault ends the look, so the later tests are answered only where
-// every encoding is sound. The flows of each call are written into the list as it is read; where the run passes, all its records
-// then stand there.
-pub(crate) fn survey_of(settings: &[u8], microseconds: u64, bytes: u64, list: &mut [u8]) -> Survey
-    requires { (0 < microseconds) × (0 < bytes) × (772 ≤ length list.old) }
-    ensures value { result ≡ survey_of (channel microseconds bytes) settings.now }
-    ensures recorded { Recorded (channel microseconds bytes) settings.now list.old list.new }
+// Tests 23, 24, 25, 3 and 4 in their order: how many flows the run asks for where it passes. The first encoding at fault ends the
+// look, so the later tests are answered only where every encoding is sound. The flows of each call are written into the list as it
+// is read; where the run passes, all its records then stand there.
+pub(crate) fn survey_of(settings: &[u8], slot: Slot, list: &mut [u8]) -> Result<usize, Refusal>
+    requires { 772 ≤ length list.old }
+    ensures value { result ≡ survey_of (channel slot.microseconds slot.bytes) settings.now }
+    ensures recorded { Recorded (channel slot.microseconds slot.bytes) settings.now list.old list.new }
 {
-    let mut at = 0;
+    let mut rest = settings;
     let mut k: usize = 1;
     let mut n: usize = 0;
-    let mut missing = Checked::Passed;
-    let mut uneven = Checked::Passed;
-    let mut rules = Checked::Passed;
-    while at < settings.len() {
-        let got = encoding_at(settings, at);
-        let call = got.call;
-        if !all_four(Question::Good, call) {
-            return Survey::Refused(Refusal::Encoding(k));
-        }
-        missing = noted(
-            missing,
-            all_four(Question::Present, call),
-            Refusal::MissingSetting(k),
-        );
-        uneven = noted(uneven, is_whole(call, microseconds), Refusal::NotWhole(k));
+    let mut missing = Ok(());
+    let mut uneven = Ok(());
+    let mut rules = Ok(());
+    while !rest.is_empty() {
+        let (call, behind) = next_encoding(rest).ok_or(Refusal::Encoding(k))?;
+        missing = noted(missing, call.is_complete(), Refusal::MissingSetting(k));
+        uneven = noted(uneven, slot.is_whole(call), Refusal::NotWhole(k));
         let m = more(n, call);
-        let kept = write_call(call, microseconds, bytes, n, m, list);
+        let kept = slot.write_call(call, n, m, list);
         rules = noted(rules, kept, Refusal::Field(n + 1));
         n += m;
         k += 1;
-        at = got.end;
+        rest = behind;
     }
     answered(missing, uneven, n, rules)
 }

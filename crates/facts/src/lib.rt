@@ -3,7 +3,7 @@
 // No public function asks anything of its caller.
 #![tactic(auto)]
 
-ghost use Rattle.std.specs.Prelude.{◌≡◌, ◌<◌, max, min};
+ghost use Rattle.std.specs.Prelude.{◌≡◌};
 ghost use Rattle.lists.specs.Lists.{flows_of};
 ghost use Rattle.lists.specs.Facts.{occupies, facts_of};
 ghost use Rattle.facts.specs.Parts.{span_of, totals_of};
@@ -26,38 +26,25 @@ pub struct Totals {
 }
 
 // The slots that each grant of the flow takes.
+#[tactic(auto, unfolding(lists::specs::Facts::occupies))]
 pub fn occupies(f: Flow) -> u16
     ensures { result ≡ occupies f }
 {
     f.size
 }
 
-// The larger of the two.
-fn larger(a: u16, b: u16) -> u16
-    ensures { (result ≡ max a b) × (result < 65536) }
-{
-    if a < b { b } else { a }
-}
-
-// The smaller of the two.
-fn smaller(a: u16, b: u16) -> u16
-    ensures { result ≡ min a b }
-{
-    if a < b { a } else { b }
-}
-
 // The list's cycle, frame, grants and load. Of a list that its tests refuse they are those of the records that are there.
+#[tactic(auto, unfolding(lists::specs::Facts::facts_of, lists::specs::Facts::grants, lists::specs::Facts::load))]
 pub fn facts_of(list: &[u8]) -> Facts
     ensures { result ≡ facts_of (flows_of list.now) }
 {
-    let ends = span_of(list);
-    let cycle = ends.cycle;
-    let sums = totals_of(list, cycle);
+    let Span { cycle, frame } = span_of(list);
+    let Totals { grants, load } = totals_of(list, cycle);
     Facts {
-        cycle: cycle,
-        frame: ends.frame,
-        grants: sums.grants,
-        load: sums.load,
+        cycle,
+        frame,
+        grants,
+        load,
     }
 }
 
@@ -65,17 +52,16 @@ pub fn facts_of(list: &[u8]) -> Facts
 pub fn span_of(list: &[u8]) -> Span
     ensures { result ≡ span_of (flows_of list.now) }
 {
-    let n = count(list);
     let mut cycle: u16 = 0;
-    let mut frame: u16 = 65535;
-    for i in 0..n {
+    let mut frame = u16::MAX;
+    for i in 0..count(list) {
         let f = flow_at(list, i);
-        cycle = larger(cycle, f.interval);
-        frame = smaller(frame, f.interval);
+        cycle = cycle.max(f.interval);
+        frame = frame.min(f.interval);
     }
     Span {
-        cycle: cycle,
-        frame: smaller(frame, cycle),
+        cycle,
+        frame: frame.min(cycle),
     }
 }
 
@@ -83,18 +69,13 @@ pub fn span_of(list: &[u8]) -> Span
 fn totals_of(list: &[u8], cycle: u16) -> Totals
     ensures { result ≡ totals_of cycle (flows_of list.now) }
 {
-    let n = count(list);
-    let mut grants: u64 = 0;
-    let mut load: u64 = 0;
-    for i in 0..n {
+    let mut grants = 0;
+    let mut load = 0;
+    for i in 0..count(list) {
         let f = flow_at(list, i);
-        let k = times(cycle, f.interval) as u64;
-        let s = occupies(f) as u64;
-        grants = grants + k;
-        load = load + s * k;
+        let times = u64::from(times(cycle, f.interval));
+        grants += times;
+        load += u64::from(occupies(f)) * times;
     }
-    Totals {
-        grants: grants,
-        load: load,
-    }
+    Totals { grants, load }
 }

@@ -7,7 +7,7 @@ use Prim.Native.Nat.{ℕ, zero, suc, ◌+◌, ◌*◌, ◌/◌, ◌%◌, ◌^◌
 use native.Mathlib.Nat.{div-one, div-eq_of_lt, div-lt_iff_lt-mul, mod-lt, le_trans, le_refl, mul-le-mul_left, one-mul, not-suc-le-zero, le_of_suc-le-suc}
 use native.Mathlib.Omega.{arith}
 use lib.Dec.{ltb}
-use lib.ListN.{length, get_or}
+use lib.ListN.{length, get_or, drop, drop_of_length-le}
 use lib.Pow as P
 use lib.Pow.{pow_pos, shr-shr, high, low}
 use borrow.Author.Tests.{lt-ltb, ltb-true}
@@ -82,6 +82,9 @@ pub length-eights : (k : ℕ) → length (eights k) ≡ k
 unfolding eights
 length-eights zero = refl
 length-eights (suc k) = ap suc (length-eights k)
+
+pub none-eights : (k : ℕ) → drop k (eights k) ≡ []
+none-eights k = drop_of_length-le (eights k) {i = k} (omega (arith, length-eights k))
 
 pub at-eights : (k i : ℕ) → i < k → get_or (eights k) i 0 ≡ 8
 unfolding eights

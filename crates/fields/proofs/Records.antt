@@ -9,9 +9,10 @@ use lib.ListN.{length, get_or, take, drop, replicate, length-append, length-take
 use lib.Seq.{take_all, take_at, take-take, get_or-take, length-take-le}
 use borrow.Author.Tests.{lt-ltb, le-ltb, lt-leb, le-leb}
 use Rattle.logic.proofs.Tests.{by_lt}
+use Rattle.std.proofs.Common.{Some, None, Result, Ok, Err}
 use Rattle.fields.specs.declared.kind.Kind.{Kind}
-use Rattle.fields.specs.declared.record.Stored.{Stored}
-use Rattle.fields.specs.declared.record.Stored.TheVariants.{Done, Wide, Short}
+use Rattle.fields.specs.declared.record.Misfit.{Misfit}
+use Rattle.fields.specs.declared.record.Misfit.TheVariants.{Wide, Short}
 use Rattle.fields.specs.Packed.{join, split, eights, pack, unpack, Fit, fits}
 use Rattle.fields.specs.Kinds.{widths, bytes}
 use Rattle.fields.specs.Records.{packed, values_of, reading, stored, afterwards, room_after}
@@ -28,7 +29,7 @@ bytes_take n s b i =
 module _ (kind : Kind) where
   -- ---- reading
 
-  pub reading_short : (s : List ℕ) → length s < bytes kind → record { whole = false; values = replicate 6 0 } ≡ reading kind s
+  pub reading_short : (s : List ℕ) → length s < bytes kind → None ≡ reading kind s
   unfolding reading
   reading_short s h = rw (lt-leb (bytes kind) (length s) h)
 
@@ -41,48 +42,47 @@ module _ (kind : Kind) where
   unfolding values_of
   values-whole s h = rw (le-leb (bytes kind) (length s) h)
 
-  -- what the calls gave: the size k, the number n and the values vs
-  pub reading-whole : (k : ℕ) (ws : List ℕ) (n : ℕ) (vs s : List ℕ) → k ≡ bytes kind → ws ≡ widths kind → k ≤ length s
-      → n ≡ join (eights (length (take (k - 0) s))) (take (k - 0) s) → vs ≡ split ws n → record { whole = true; values = vs } ≡ reading kind s
+  -- what the calls gave: the size k, the record's bytes, their number n and its values vs
+  pub reading-whole : (s : List ℕ) (k : ℕ) (front : List ℕ) (ws : List ℕ) (n : ℕ) (vs : List ℕ) → k ≡ bytes kind → k ≤ length s → front ≡ take (k - 0) s
+      → n ≡ join (eights (length front)) front → ws ≡ widths kind → vs ≡ split ws n → Some vs ≡ reading kind s
   unfolding reading unpack
-  reading-whole k ws n vs s ek ew h en ev =
+  reading-whole s k front ws n vs ek h ef en ew ev =
       let d : k - 0 ≡ bytes kind = omega arith in
       let l : length (take (bytes kind) s) ≡ bytes kind = length-take-le (bytes kind) s (omega arith) in
-      let is : vs ≡ unpack (widths kind) (bytes kind) (take (bytes kind) s) = ev ∙ ap₂ split ew (en ∙ rw (d, l)) in
+      let is : vs ≡ unpack (widths kind) (bytes kind) (take (bytes kind) s) = ev ∙ ap₂ split ew (en ∙ rw (ef, d, l)) in
       rw (is, le-leb (bytes kind) (length s) (omega arith))
 
   -- ---- writing
 
   module _ (vs room : List ℕ) where
     -- what the room holds, by the answer
-    room_is : (a : Stored) → a ≡ stored kind vs (length room) → afterwards a (packed kind vs ++ drop (bytes kind) room) room ≡ room_after kind vs room
+    room_is : (a : Result Unit Misfit) → a ≡ stored kind vs (length room) → afterwards a (packed kind vs ++ drop (bytes kind) room) room ≡ room_after kind vs room
     unfolding room_after
-    room_is a e = ap (λ (x : Stored). afterwards x (packed kind vs ++ drop (bytes kind) room) room) e
+    room_is a e = ap (λ (x : Result Unit Misfit). afterwards x (packed kind vs ++ drop (bytes kind) room) room) e
 
-    pub ends_short : length room < bytes kind → (Short ≡ stored kind vs (length room)) × (room ≡ room_after kind vs room)
+    pub ends_short : length room < bytes kind → (Err Short ≡ stored kind vs (length room)) × (room ≡ room_after kind vs room)
     unfolding stored
-    ends_short h = let a : Short ≡ stored kind vs (length room) = rw (lt-ltb (length room) (bytes kind) h) in (a, room_is Short a)
+    ends_short h = let a : Err Short ≡ stored kind vs (length room) = rw (lt-ltb (length room) (bytes kind) h) in (a, room_is (Err Short) a)
 
-    pub ends-wide : bytes kind ≤ length room → fits (widths kind) vs ≡ false → (Wide ≡ stored kind vs (length room)) × (room ≡ room_after kind vs room)
+    pub ends-wide : bytes kind ≤ length room → fits (widths kind) vs ≡ false → (Err Wide ≡ stored kind vs (length room)) × (room ≡ room_after kind vs room)
     unfolding stored
-    ends-wide h f = let a : Wide ≡ stored kind vs (length room) = rw (le-ltb (length room) (bytes kind) h, f) in (a, room_is Wide a)
+    ends-wide h f = let a : Err Wide ≡ stored kind vs (length room) = rw (le-ltb (length room) (bytes kind) h, f) in (a, room_is (Err Wide) a)
 
     pub ends_done : fits (widths kind) vs ≡ true → bytes kind ≤ length room
-        → (Done ≡ stored kind vs (length room)) × (packed kind vs ++ drop (bytes kind) room ≡ room_after kind vs room)
+        → (Ok tt ≡ stored kind vs (length room)) × (packed kind vs ++ drop (bytes kind) room ≡ room_after kind vs room)
     unfolding stored
-    ends_done f h = let a : Done ≡ stored kind vs (length room) = rw (le-ltb (length room) (bytes kind) h, f) in (a, room_is Done a)
+    ends_done f h = let a : Ok tt ≡ stored kind vs (length room) = rw (le-ltb (length room) (bytes kind) h, f) in (a, room_is (Ok tt) a)
 
     -- what the calls gave: the size k, the number n and the bytes ys in the room's front
     pub ends-put : (k : ℕ) (ws : List ℕ) (n : ℕ) (ys : List ℕ) → k ≡ bytes kind → ws ≡ widths kind → fits (widths kind) vs ≡ true → k ≤ length room
-        → n ≡ join ws vs → ys ≡ split (eights (length (take (k - 0) room))) n
-        → (Done ≡ stored kind vs (length room)) × (ys ++ drop (k - 0) room ≡ room_after kind vs room)
+        → n ≡ join ws vs → ys ≡ split (eights (length (take k room))) n
+        → (Ok tt ≡ stored kind vs (length room)) × (ys ++ drop k room ≡ room_after kind vs room)
     unfolding packed pack
     ends-put k ws n ys ek ew f h en ey =
-        let d : k - 0 ≡ bytes kind = omega arith in
-        let l : length (take (k - 0) room) ≡ bytes kind = rw d (length-take-le (bytes kind) room (omega arith)) in
+        let l : length (take k room) ≡ bytes kind = rw ek (length-take-le (bytes kind) room (omega arith)) in
         let is : ys ≡ packed kind vs = ey ∙ ap₂ (λ (x z : ℕ). split (eights x) z) l (en ∙ ap (λ (x : List ℕ). join x vs) ew) in
         let done = ends_done f (omega arith) in
-        (done.0, rw (is, d) done.1)
+        (done.0, rw (is, ek) done.1)
 
   -- ---- there and back
 

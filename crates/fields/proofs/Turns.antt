@@ -1,53 +1,52 @@
 -- What one turn of each loop over widths and values does. Assumes nothing.
-use mathlib.Core.Path.{◌≡◌, sym, ap, ap₂, ◌∙◌}
+use mathlib.Core.Path.{◌≡◌, refl, ap, ap₂, ◌∙◌}
 use mathlib.Core.Bool.{true, false}
-use mathlib.Core.List.{List, ◌∷◌}
+use mathlib.Core.List.{List, [], ◌∷◌}
+use mathlib.Core.Logic.{◌⊎◌}
 use Prim.Native.Nat.{ℕ, suc, ◌+◌, ◌*◌, ◌/◌, ◌%◌, ◌^◌, ◌≤◌, ◌<◌}
-use native.Mathlib.Nat.{le_refl, mul-le-mul_left, one-mul}
+use native.Mathlib.Nat.{le_refl, one-mul}
 use native.Mathlib.Numerals.{add-one}
 use native.Mathlib.Omega.{arith}
 use lib.Dec.{lit<}
-use lib.ListN.{length, get_or, drop, set, drop_of_length-le}
+use lib.ListN.{length, get_or, drop, set}
 use lib.Seq.{drop-cons, get_or-set_same, drop-set-lt, lt-length-set}
 use lib.Pow as P
 use lib.Pow.{pow_pos, shr-shr}
 use borrow.Author.Tests.{lt-ltb, le-ltb}
 use Rattle.fields.specs.Packed.{total, join_from, join, split, eights, Fit, fits}
-use Rattle.fields.proofs.Packed.{join-lt, joined-le, fit_length, fit_bytes, total-eights, length-eights, at-eights}
+use Rattle.fields.proofs.Packed.{join-lt, joined-le, fit_bytes, total-eights, length-eights, at-eights}
 
 -- ---- joining, from the first value
 
-join_step : (n : ℕ) (ws vs : List ℕ) (i : ℕ) → i < length ws → i < length vs
-    → join_from n (drop i ws) (drop i vs) ≡ join_from (n * 2 ^ get_or ws i 0 + get_or vs i 0) (drop (i + 1) ws) (drop (i + 1) vs)
+pub join_end : (n : ℕ) (ws vs : List ℕ) → (length ws ≡ 0) ⊎ (length vs ≡ 0) → join_from n ws vs ≡ n
 unfolding join_from
-join_step n ws vs i hw hv = rw (add-one, drop-cons ws i 0, drop-cons vs i 0)
+join_end n [] vs h = refl
+join_end n (w ∷ ws) [] h = refl
+join_end n (w ∷ ws) (v ∷ vs) h = absurd (omega arith)
 
-pub join_end : (n : ℕ) (ws vs : List ℕ) (i : ℕ) → length ws ≤ i → join_from n (drop i ws) vs ≡ n
+-- the number n grew by a value v of width w, fits 64 bits still, and the values us that are left, of widths xs, make j behind it
+abbrev pub JoinTurn : ℕ → ℕ → ℕ → List ℕ → List ℕ → ℕ → Type 0
+JoinTurn n w v xs us j = (n * 2 ^ w + v < 2 ^ 64) × (join_from (n * 2 ^ w + v) xs us ≡ j)
+
+pub join_turn : (ws vs : List ℕ) (n w v : ℕ) (xs us : List ℕ) → Fit ws vs → total ws ≤ 64
+    → join_from n (w ∷ xs) (v ∷ us) ≡ join ws vs → JoinTurn n w v xs us (join ws vs)
 unfolding join_from
-join_end n ws vs i h = rw (drop_of_length-le ws h)
-
--- the number grew to m, which fits 64 bits, and the values that are left make the same behind it
-abbrev pub JoinTurn : List ℕ → List ℕ → ℕ → ℕ → ℕ → Type 0
-JoinTurn ws vs i n m = (n ≤ m) × (m < 2 ^ 64) × (join_from m (drop (i + 1) ws) (drop (i + 1) vs) ≡ join ws vs)
-
-pub join_turn : (ws vs : List ℕ) (n i : ℕ) → Fit ws vs → total ws ≤ 64 → i < length ws
-    → join_from n (drop i ws) (drop i vs) ≡ join ws vs → JoinTurn ws vs i n (n * 2 ^ get_or ws i 0 + get_or vs i 0)
-join_turn ws vs n i fit short h inv =
-    let m : ℕ = n * 2 ^ get_or ws i 0 + get_or vs i 0 in
-    let e : join_from m (drop (i + 1) ws) (drop (i + 1) vs) ≡ join ws vs =
-    sym (join_step n ws vs i h (omega (arith, fit_length ws vs fit))) ∙ inv in
+join_turn ws vs n w v xs us fit short inv =
     let below : join ws vs < 2 ^ total ws = join-lt ws vs fit in
     let room : 2 ^ total ws ≤ 2 ^ 64 = P.pow_mono {j = 64} short in
-    let le : m ≤ join_from m (drop (i + 1) ws) (drop (i + 1) vs) = joined-le m _ _ in
-    let up : n * 1 ≤ n * 2 ^ get_or ws i 0 = mul-le-mul_left n (pow_pos (get_or ws i 0)) in
-    (omega arith, omega arith, e)
+    let le : n * 2 ^ w + v ≤ join_from (n * 2 ^ w + v) xs us = joined-le (n * 2 ^ w + v) xs us in
+    (omega (arith, inv), inv)
 
--- the same over bytes
+-- the same over bytes, at byte i
 pub byte_turn : (s : List ℕ) (n i : ℕ) → ((j : ℕ) → get_or s j 0 < 256) → length s ≤ 8 → i < length s
-    → join_from n (drop i (eights (length s))) (drop i s) ≡ join (eights (length s)) s → JoinTurn (eights (length s)) s i n (n * 256 + get_or s i 0)
+    → join_from n (drop i (eights (length s))) (drop i s) ≡ join (eights (length s)) s
+    → JoinTurn n 8 (get_or s i 0) (drop (i + 1) (eights (length s))) (drop (i + 1) s) (join (eights (length s)) s)
 byte_turn s n i bytes short h inv =
-    rw (at-eights (length s) i h) at
-    (join_turn (eights (length s)) s n i (fit_bytes s bytes) (omega (arith, total-eights (length s))) (omega (arith, length-eights (length s))) inv)
+    let front : drop i (eights (length s)) ≡ 8 ∷ drop (i + 1) (eights (length s)) =
+    drop-cons (eights (length s)) i 0 (omega (arith, length-eights (length s))) ∙ rw (at-eights (length s) i h, add-one) in
+    let first : drop i s ≡ get_or s i 0 ∷ drop (i + 1) s = drop-cons s i 0 h ∙ rw add-one in
+    join_turn (eights (length s)) s n 8 (get_or s i 0) (drop (i + 1) (eights (length s))) (drop (i + 1) s) (fit_bytes s bytes) (omega (arith, total-eights (length s)))
+    (rw (front, first) at inv)
 
 -- ---- splitting, from the last value
 
@@ -77,17 +76,19 @@ pub split_byte : (n : ℕ) (len : ℕ) (vs : List ℕ) (left j k : ℕ) → suc 
 split_byte n len vs left j k e h l el es =
     rw (at-eights len j h) at (split_turn n (eights len) vs left j k e (omega (arith, length-eights len)) (omega arith) el es)
 
--- ---- whether the values fit
+-- ---- whether the values fit, from the first
 
-module _ (ws vs : List ℕ) (i : ℕ) where
-  pub fits-step : i < length ws → i < length vs → get_or vs i 0 < 2 ^ get_or ws i 0 → fits (drop i ws) (drop i vs) ≡ fits (drop (i + 1) ws) (drop (i + 1) vs)
+module _ (w v : ℕ) (ws vs : List ℕ) where
+  pub fits-step : v < 2 ^ w → fits (w ∷ ws) (v ∷ vs) ≡ fits ws vs
   unfolding fits
-  fits-step hw hv l = rw (add-one, drop-cons ws i 0, drop-cons vs i 0, lt-ltb _ _ l)
+  fits-step l = rw (lt-ltb v (2 ^ w) l)
 
-  pub fits_stop : i < length ws → i < length vs → 2 ^ get_or ws i 0 ≤ get_or vs i 0 → fits (drop i ws) (drop i vs) ≡ false
+  pub fits_stop : 2 ^ w ≤ v → fits (w ∷ ws) (v ∷ vs) ≡ false
   unfolding fits
-  fits_stop hw hv l = rw (drop-cons ws i 0, drop-cons vs i 0, le-ltb _ _ l)
+  fits_stop l = rw (le-ltb v (2 ^ w) l)
 
-  pub fits_end : length ws ≤ i → length vs ≤ i → fits (drop i ws) (drop i vs) ≡ true
-  unfolding fits
-  fits_end hw hv = rw (drop_of_length-le ws hw, drop_of_length-le vs hv)
+pub fits_end : (ws vs : List ℕ) → length ws ≡ length vs → (length ws ≡ 0) ⊎ (length vs ≡ 0) → fits ws vs ≡ true
+unfolding fits
+fits_end [] [] e h = refl
+fits_end [] (v ∷ vs) e h = absurd (omega arith)
+fits_end (w ∷ ws) vs e h = absurd (omega arith)

@@ -1,5 +1,5 @@
--- Document 01's "Packed forms": the field widths of each kind of record. Assumes nothing.
-use Rattle.std.specs.Prelude.{ℕ, List, [], ◌∷◌}
+-- Document 01's "Packed forms": the field widths of each kind of record, and where its records stand. Assumes nothing.
+use Rattle.std.specs.Prelude.{ℕ, ◌+◌, ◌*◌, List, [], ◌∷◌}
 use Rattle.fields.specs.declared.kind.Kind.{Kind}
 use Rattle.fields.specs.declared.kind.Kind.TheVariants.{ListHead, ListRecord, TableHead, TableRecord}
 
@@ -20,3 +20,14 @@ bytes ListHead = 4
 bytes ListRecord = 6
 bytes TableHead = 8
 bytes TableRecord = 5
+
+-- the bytes of the head that stands before records of a kind; a head stands first
+abbrev pub head_bytes : Kind → ℕ
+head_bytes ListHead = 0
+head_bytes ListRecord = 4
+head_bytes TableHead = 0
+head_bytes TableRecord = 8
+
+-- where record i stands, counted from 0: behind the head and the records before it
+abbrev pub place : Kind → ℕ → ℕ
+place kind i = head_bytes kind + bytes kind * i

@@ -1,7 +1,8 @@
-// The kinds of records and the one table of their field widths.
-ghost use Rattle.std.specs.Prelude.{◌≡◌};
-ghost use Rattle.fields.specs.Kinds.{widths, bytes};
+// The kinds of records, with the widths of their fields and where records of a kind stand.
+ghost use Rattle.std.specs.Prelude.{◌≡◌, ◌<◌, ◌^◌, SomeIff};
+ghost use Rattle.fields.specs.Kinds.{widths, bytes, head_bytes, place};
 
+// A kind of record: the head of a list or of a table, or one of the records behind it.
 #[derive(Clone, Copy)]
 pub enum Kind {
     ListHead,
@@ -10,7 +11,7 @@ pub enum Kind {
     TableRecord,
 }
 
-// The field widths in bits, a row for each kind of record. A width of 0 is no field.
+// The field widths in bits, a row for each kind of record, in the order of the kinds. A width of 0 is no field.
 const WIDTHS: [[u8; 6]; 4] = [
     [4, 4, 8, 16, 0, 0],
     [10, 12, 13, 13, 0, 0],
@@ -23,16 +24,10 @@ impl Kind {
     pub(crate) fn widths(self) -> [u8; 6]
         ensures { result ≡ widths self }
     {
-        let table = WIDTHS;
-        match self {
-            Kind::ListHead => table[0],
-            Kind::ListRecord => table[1],
-            Kind::TableHead => table[2],
-            Kind::TableRecord => table[3],
-        }
+        WIDTHS[self as usize]
     }
 
-    // How many bytes the record takes.
+    // How many bytes a record takes.
     pub(crate) fn bytes(self) -> usize
         ensures { result ≡ bytes self }
     {
@@ -42,5 +37,24 @@ impl Kind {
             Kind::TableHead => 8,
             Kind::TableRecord => 5,
         }
+    }
+
+    // How many bytes the head takes that stands before records of this kind; a head stands first.
+    pub(crate) fn head_bytes(self) -> usize
+        ensures { result ≡ head_bytes self }
+    {
+        match self {
+            Kind::ListHead | Kind::TableHead => 0,
+            Kind::ListRecord => 4,
+            Kind::TableRecord => 8,
+        }
+    }
+
+    // Where record i stands, counted from 0; nothing where that is beyond the numbers of its type.
+    #[inline(always)]
+    pub(crate) fn place(self, i: usize) -> Option<usize>
+        ensures { SomeIff result (place self i < 2 ^ 64) (place self i) }
+    {
+        i.checked_mul(self.bytes())?.checked_add(self.head_bytes())
     }
 }

@@ -9,4 +9,4 @@ mod kind;
 mod record;
 
 pub use kind::Kind;
-pub use record::{Reading, Stored, read, write};
+pub use record::{Misfit, read, read_at, write, write_at};

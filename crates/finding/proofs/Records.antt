@@ -1,16 +1,13 @@
 -- The notes of an index: noting the records from the last to the first, and searching along them. Assumes nothing.
-use mathlib.Core.Path.{◌≡◌, sym, ap, ◌∙◌}
-use mathlib.Core.List.{List}
-use Prim.Native.Nat.{ℕ, ◌+◌, ◌%◌, ◌≤◌, ◌<◌}
-use native.Mathlib.Omega.{arith}
-use native.Mathlib.Nat.{mod-lt}
-use lib.Dec.{lit<}
-use lib.ListN.{length, get_or, set, replicate, get_or-replicate}
-use lib.Seq.{get_or-set_same, get_or-set_other}
+use Rattle.std.proofs.Common.{◌≡◌, ltb, sym, ap, ◌∙◌, List, ℕ, ◌+◌, ◌%◌, ◌≤◌, ◌<◌, length, get_or, set, replicate, Option, Some, None, unwrap_or, arith, mod-lt, lit<, get_or-set_same, get_or-set_other}
+use lib.ListN.{get_or-replicate}
+use Rattle.std.proofs.lemmas.Bool.{ltb-true, lt-ltb, le-ltb}
+use Rattle.std.proofs.lemmas.Option.{cond_some, none-some}
 use Rattle.logic.proofs.Tests.{by_lt, by_order, by_eq}
 use Rattle.flows.specs.declared.flow.Flow.{Flow}
 use Rattle.flows.specs.Flows.{no_flow}
-use Rattle.finding.specs.Parts.{record_of, bits_of, first_of, next_of, Noted, Indexed}
+use Rattle.finding.specs.declared.Index.{Index}
+use Rattle.finding.specs.Parts.{record_of, record_in, behind, bits_of, first_of, next_of, Noted, Indexed}
 use Rattle.finding.proofs.Places.{record_at, record_none}
 
 -- ---- noting
@@ -79,41 +76,53 @@ module _ (fs : List Flow) (firsts nexts : List ℕ) (i k : ℕ) (f : Flow) (a : 
 
 -- ---- searching
 
--- no record before k has the number x, and k, below 128, is a record with the same last eight bits
-pub record Sought (fs : List Flow) (x k : ℕ) : Type 0 where
-  pub passed : (j : ℕ) → j < length fs → j < k → (get_or fs j no_flow).number ≡ x → ⊥
-  pub inside : k < 128 → k < length fs
-  pub alike : k < 128 → bits_of fs k ≡ x % 256
+-- a record that a note says is that of the note, below 128
+pub noted_is : (note k : ℕ) → record_in note ≡ Some k → (note ≡ k) × (k < 128)
+noted_is note k e = let p = cond_some (ltb note 128) note k e in let l = ltb-true note 128 p.0 in (p.1, omega arith)
 
-module _ (fs : List Flow) (firsts nexts : List ℕ) (a : Indexed fs firsts nexts) (x : ℕ) where
-  pub sought_first : Sought fs x (first_of firsts x)
-  sought_first =
-      record {
-        passed = λ j l h e. a.first_skips x j (omega arith) l h (ap (λ (n : ℕ). n % 256) e);
-        inside = λ h. (a.first_has x h).1;
-        alike = λ h. (a.first_has x h).2;
-      }
+-- a record that is noted behind k is further on, and below 128
+pub behind_is : (nexts : List ℕ) (k m : ℕ) → behind nexts k ≡ Some m → (k < m) × (m < 128)
+behind_is nexts k m e =
+    by_lt k (next_of nexts k)
+    (λ l. let n = noted_is (next_of nexts k) m (rw (lt-ltb k (next_of nexts k) l) at e) in (omega arith, n.1))
+    (λ l. absurd (none-some m (rw (le-ltb k (next_of nexts k) l) at e)))
 
-  -- record k has another number
-  pub sought_next : (k n : ℕ) → k < 128 → Sought fs x k → ((get_or fs k no_flow).number ≡ x → ⊥) → (k < next_of nexts k → n ≡ next_of nexts k) → Sought fs x n
-  sought_next k n h b o up =
-      let l = b.inside h in
-      let rises : k < next_of nexts k = by_lt (next_of nexts k) 128 (λ u. (a.next_has k (omega arith) l u).0) (λ u. omega arith) in
-      let s = up rises in
-      record {
-        passed = λ j m u e.
-            by_order j k
-            (λ v. b.passed j m v e)
-            (λ v. o (ap (λ (i : ℕ). (get_or fs i no_flow).number) (sym v) ∙ e))
-            (λ v. a.next_skips k j (omega arith) v m (omega arith) (ap (λ (i : ℕ). i % 256) e ∙ sym (b.alike h)));
-        inside = λ u. rw s (a.next_has k (omega arith) l (omega arith)).1;
-        alike = λ u. rw s ((a.next_has k (omega arith) l (omega arith)).2 ∙ b.alike h);
-      }
+-- where a search goes on: at a record, or at 128 where there is none
+abbrev pub place : Option ℕ → ℕ
+place next = unwrap_or next 128
 
-  -- no record is left
-  pub sought_none : (k : ℕ) → 128 ≤ k → Sought fs x k → 128 ≡ record_of fs x
-  sought_none k h b = record_none fs x (λ j l. b.passed j l (omega (arith, a.few)))
+-- what lies before that place lies before the note
+before : (note j : ℕ) → j < 128 → j < place (record_in note) → j < note
+before note j few h = by_lt note 128 (λ l. rw (lt-ltb note 128 l) at h) (λ l. omega arith)
 
-  -- record k has the number
-  pub sought_here : (k : ℕ) → k < 128 → Sought fs x k → (get_or fs k no_flow).number ≡ x → k ≡ record_of fs x
-  sought_here k h b e = let l = b.inside h in record_at fs x k l e (λ j u. b.passed j (omega arith) u)
+-- no record before the next one has the number x, and the next one is a record with the same last eight bits
+pub record Sought (fs : List Flow) (x : ℕ) (next : Option ℕ) : Type 0 where
+  pub passed : (j : ℕ) → j < length fs → j < place next → (get_or fs j no_flow).number ≡ x → ⊥
+  pub inside : (k : ℕ) → next ≡ Some k → (k < length fs) × (bits_of fs k ≡ x % 256)
+
+module _ (fs : List Flow) (index : Index) (a : Indexed fs index) (x : ℕ) where
+  module _ (next : Option ℕ) (b : Sought fs x next) where
+    -- no record is left
+    pub sought_none : next ≡ None → None ≡ record_of fs x
+    sought_none n = let few = a.few in record_none fs x (λ j l. b.passed j l (rw n (omega arith)))
+
+    module _ (k : ℕ) (s : next ≡ Some k) where
+      -- record k has the number
+      pub sought_here : (get_or fs k no_flow).number ≡ x → Some k ≡ record_of fs x
+      sought_here e = record_at fs x k (b.inside k s).0 e (λ j u. let few = (b.inside k s).0 in b.passed j (omega arith) (rw s u))
+
+      -- record k has another number
+      pub sought_next : ((get_or fs k no_flow).number ≡ x → ⊥) → Sought fs x (behind index.nexts k)
+      sought_next o =
+          let few = a.few in
+          let here = b.inside k s in
+          let note : ℕ = next_of index.nexts k in
+          let rises : k < note = by_lt note 128 (λ u. (a.next_has k (omega arith) here.0 u).0) (λ u. omega arith) in
+          rw (lt-ltb k note rises) (record {
+            passed = λ j m u e.
+                by_order j k
+                (λ v. b.passed j m (rw s v) e)
+                (λ v. o (ap (λ (i : ℕ). (get_or fs i no_flow).number) (sym v) ∙ e))
+                (λ v. a.next_skips k j (omega arith) v m (before note j (omega arith) u) (ap (λ (i : ℕ). i % 256) e ∙ sym here.1));
+            inside = λ m e. let n = noted_is note m e in let o = a.next_has k (omega arith) here.0 (omega arith) in rw (← n.0) (o.1, o.2 ∙ here.1);
+          })

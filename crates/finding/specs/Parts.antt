@@ -1,15 +1,16 @@
 -- The place of a flow in its list, and what an index of the list's records by the last eight bits of their numbers notes. Assumes nothing.
-use Rattle.std.specs.Prelude.{◌≡◌, true, false, List, [], ◌∷◌, ℕ, suc, ◌%◌, ◌≤◌, ◌<◌, eqb, length, get_or}
+use Rattle.std.specs.Prelude.{◌≡◌, true, false, cond, List, [], ◌∷◌, ℕ, suc, ◌%◌, ◌≤◌, ◌<◌, ltb, eqb, length, get_or, Option, Some, None}
 use Rattle.flows.specs.declared.flow.Flow.{Flow}
 use Rattle.flows.specs.Flows.{no_flow}
+use Rattle.finding.specs.declared.Index.{Index}
 
--- the place of the first flow with the number x, where the first of them is counted as k; 128 where none has it
-unfoldable pub record_from : ℕ → List Flow → ℕ → ℕ
-record_from k [] x = 128
-record_from k (f ∷ fs) x = elim (eqb f.number x) [ true ↦ k | false ↦ record_from (suc k) fs x ]
+-- the place of the first flow with the number x, if one has it, where the first of them is counted as k
+unfoldable pub record_from : ℕ → List Flow → ℕ → Option ℕ
+record_from k [] x = None
+record_from k (f ∷ fs) x = elim (eqb f.number x) [ true ↦ Some k | false ↦ record_from (suc k) fs x ]
 
--- the place of the first flow with the number x, counted from 0; 128 where none has it
-abbrev pub record_of : List Flow → ℕ → ℕ
+-- the place of the first flow with the number x, if one has it, counted from 0
+abbrev pub record_of : List Flow → ℕ → Option ℕ
 record_of fs x = record_from 0 fs x
 
 -- the last eight bits of the number of record k
@@ -24,6 +25,14 @@ first_of firsts x = get_or firsts (x % 256) 0
 abbrev pub next_of : List ℕ → ℕ → ℕ
 next_of nexts k = get_or nexts k 0
 
+-- the record that a note says: 128 says that there is none
+abbrev pub record_in : ℕ → Option ℕ
+record_in note = cond (ltb note 128) (Some note) None
+
+-- the record that is noted behind record k, where it is one further on
+abbrev pub behind : List ℕ → ℕ → Option ℕ
+behind nexts k = cond (ltb k (next_of nexts k)) (record_in (next_of nexts k)) None
+
 -- the records from i on are noted: for any last eight bits the first one with them, for each record the next one with the same; 128 where there is none
 pub record Noted (fs : List Flow) (i : ℕ) (firsts nexts : List ℕ) : Type 0 where
   pub few : length fs ≤ 128
@@ -33,5 +42,5 @@ pub record Noted (fs : List Flow) (i : ℕ) (firsts nexts : List ℕ) : Type 0 w
   pub next_has : (k : ℕ) → i ≤ k → k < length fs → next_of nexts k < 128 → (k < next_of nexts k) × (next_of nexts k < length fs) × (bits_of fs (next_of nexts k) ≡ bits_of fs k)
 
 -- all records are noted
-abbrev pub Indexed : List Flow → List ℕ → List ℕ → Type 0
-Indexed fs firsts nexts = Noted fs 0 firsts nexts
+abbrev pub Indexed : List Flow → Index → Type 0
+Indexed fs index = Noted fs 0 index.firsts index.nexts

@@ -3,72 +3,84 @@
 // No public function asks anything of its caller.
 #![tactic(auto)]
 
-ghost use Rattle.std.specs.Prelude.{◌≡◌, ◌%◌, ◌≤◌, ◌<◌, min};
+ghost use Rattle.std.specs.Prelude.{◌≡◌, ◌%◌, ◌≤◌, ◌<◌};
 ghost use Rattle.lists.specs.Lists.{count, flows_of};
-ghost use Rattle.finding.specs.Parts.{record_of, Indexed};
+ghost use Rattle.finding.specs.Parts.{record_of, record_in, first_of, behind, Indexed};
 
 use lists::{count, flow_at};
 
 // The flows of the longest list.
 pub const FLOWS: usize = 128;
 
-// What is noted where there is no record.
-pub const ABSENT: u8 = 128;
+// What is noted where there is no record: a note is a byte, and no record is counted so high.
+const ABSENT: u8 = 128;
 
 // The last eight bits of a number.
 fn last_bits(number: u16) -> usize
     ensures { (result ≡ number % 256) × (result < 256) }
 {
-    (number % 256) as usize
+    usize::from(number % 256)
 }
 
-// How many of n records are noted: no more than the longest list has.
-fn noted(n: usize) -> usize
-    ensures { result ≡ min n 128 }
+// The record that a note says, if it says one.
+fn record_in(note: u8) -> Option<usize>
+    ensures { result ≡ record_in note }
 {
-    if n < FLOWS { n } else { FLOWS }
+    (note < ABSENT).then_some(usize::from(note))
 }
 
-// Notes for any last eight bits the first record with them, and for each record the next one with the same.
-pub fn index(list: &[u8], firsts: &mut [u8; 256], nexts: &mut [u8; 128])
-    ensures { count list.now ≤ 128 → Indexed (flows_of list.now) firsts.new nexts.new }
-{
-    *firsts = [ABSENT; 256];
-    *nexts = [ABSENT; FLOWS];
-    let mut i = noted(count(list));
-    while 0 < i {
-        i -= 1;
-        let k = last_bits(flow_at(list, i).number);
-        nexts[i] = firsts[k];
-        firsts[k] = i as u8;
-    }
+// An index of a list's records: for any last eight bits the first record whose number ends in them, and for each record the next one that ends in the same.
+#[derive(Drop)]
+pub struct Index {
+    pub firsts: [u8; 256],
+    pub nexts: [u8; 128],
 }
 
-// The record that a note says.
-fn record_in(note: u8) -> usize
-    ensures { result ≡ note }
-{
-    note as usize
-}
+impl Index {
+    // Nothing is noted.
+    pub const EMPTY: Index = Index {
+        firsts: [ABSENT; 256],
+        nexts: [ABSENT; FLOWS],
+    };
 
-// The record that the note of record k says: one further on, or else none.
-fn behind(k: usize, note: u8) -> usize
-    ensures { (k < note → result ≡ note) × (k < 128 → k < result) }
-{
-    let next = record_in(note);
-    if k < next { next } else { FLOWS }
-}
-
-// The record, counted from 0, of the first flow with that number; 128 where none has it. The search follows the notes as long as they rise.
-pub fn record_of(list: &[u8], firsts: &[u8; 256], nexts: &[u8; 128], number: u16) -> usize
-    ensures { Indexed (flows_of list.now) firsts.now nexts.now → result ≡ record_of (flows_of list.now) number }
-{
-    let mut k = record_in(firsts[last_bits(number)]);
-    while k < FLOWS {
-        if flow_at(list, k).number == number {
-            return k;
+    // Notes the records of a list.
+    pub fn fill(&mut self, list: &[u8])
+        ensures { count list.now ≤ 128 → Indexed (flows_of list.now) self.new }
+    {
+        *self = Index::EMPTY;
+        for i in (0..count(list).min(FLOWS)).rev() {
+            let bits = last_bits(flow_at(list, i).number);
+            self.nexts[i] = self.firsts[bits];
+            self.firsts[bits] = i as u8;
         }
-        k = behind(k, nexts[k]);
     }
-    FLOWS
+
+    // The first record whose number has the last eight bits of this one.
+    fn first(&self, number: u16) -> Option<usize>
+        ensures { result ≡ record_in (first_of self.now.firsts number) }
+    {
+        record_in(self.firsts[last_bits(number)])
+    }
+
+    // The record that is noted behind record k, if it is one further on.
+    fn behind(&self, k: usize) -> Option<usize>
+        requires { k < 128 }
+        ensures { result ≡ behind self.now.nexts k }
+    {
+        record_in(self.nexts[k]).filter(|next| k < *next)
+    }
+
+    // The record, counted from 0, of the first flow with that number. The search follows the notes as long as they rise.
+    pub fn record_of(&self, list: &[u8], number: u16) -> Option<usize>
+        ensures { Indexed (flows_of list.now) self.now → result ≡ record_of (flows_of list.now) number }
+    {
+        let mut next = self.first(number);
+        while let Some(k) = next {
+            if flow_at(list, k).number == number {
+                return Some(k);
+            }
+            next = self.behind(k);
+        }
+        None
+    }
 }

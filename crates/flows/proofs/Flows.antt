@@ -1,21 +1,20 @@
 -- A flow's rule, and its record there and back. Assumes nothing.
 use mathlib.Core.Path.{◌≡◌, ap, ◌∙◌}
-use mathlib.Core.Bool.{true, false}
+use mathlib.Core.Bool.{true}
 use mathlib.Core.List.{List, [], ◌∷◌, ◌++◌}
 use Prim.Native.Nat.{ℕ, ◌≤◌, ◌<◌}
 use native.Mathlib.Omega.{arith}
 use lib.Dec.{leb, lit<}
 use lib.ListN.{length, get_or, take}
-use borrow.Author.Tests.{lt-ltb, le-leb, ltb-true, leb-true}
+use borrow.Author.Tests.{ltb-true, leb-true}
 use Rattle.logic.specs.Numbers.{among}
-use Rattle.logic.proofs.Tests.{by_test, by_lt, and_both, among_both}
+use Rattle.logic.proofs.Tests.{by_lt, and_both, among_both}
 use Rattle.fields.specs.declared.kind.Kind.TheVariants.{ListRecord}
 use Rattle.flows.specs.declared.flow.Flow.{Flow}
-use Rattle.flows.specs.declared.flow.Rule.TheVariants.{Kept, Broken}
 use Rattle.fields.specs.Packed.{Fit}
 use Rattle.fields.specs.Kinds.{widths}
 use Rattle.fields.specs.Records.{packed, values_of}
-use Rattle.flows.specs.Flows.{no_flow, keeps, rule, fields_of, flow_with, flow_of, packed_flow}
+use Rattle.flows.specs.Flows.{keeps, fields_of, flow_with, flow_of, packed_flow}
 use Rattle.fields.proofs.Packed.{four-values}
 use Rattle.fields.proofs.Records.{length-packed, values_short, values-packed, packed_front, values_fit}
 
@@ -47,25 +46,6 @@ keeps_is f h =
     let e = and_both (leb f.size f.interval) _ d.1 in
     keeps_by f a.0 b.0 d.0 (leb-true _ _ e.0) (ltb-true _ _ e.1)
 
--- what the rule answers, both ways
-pub rule_kept : (f : Flow) → Keeps f → Kept ≡ rule f
-unfolding rule keeps
-rule_kept f k =
-    rw (le-leb _ _ k.numbered, le-leb _ _ k.number_le, le-leb _ _ k.sized, le-leb _ _ k.size_le, le-leb _ _ k.timed, le-leb _ _ k.interval_le, le-leb _ _ k.fitting, lt-ltb _ _ k.tolerable)
-
-pub rule-broken : (f : Flow) → (Keeps f → ⊥) → Broken ≡ rule f
-unfolding rule
-rule-broken f n = by_test (keeps f) (λ e. absurd (n (keeps_is f e))) (λ e. rw e)
-
--- and what its answer says
-pub kept_keeps : (f : Flow) → rule f ≡ Kept → keeps f ≡ true
-unfolding rule
-kept_keeps f e = by_test (keeps f) (λ t. t) (λ t. let b : Broken ≡ Kept = rw t at e in let z : ◌≡◌ {A = ℕ} 0 1 = cc in absurd (omega arith))
-
-pub broken-keeps : (f : Flow) → rule f ≡ Broken → keeps f ≡ false
-unfolding rule
-broken-keeps f e = by_test (keeps f) (λ t. let b : Kept ≡ Broken = rw t at e in let z : ◌≡◌ {A = ℕ} 0 1 = cc in absurd (omega arith)) (λ t. t)
-
 -- ---- the record
 
 -- a flow that keeps its rule has fields that fit their widths
@@ -75,11 +55,6 @@ keeps_fit f k = (omega arith, (omega arith, (omega arith, (omega arith, (lit< tt
 pub length-packed_flow : (f : Flow) → length (packed_flow f) ≡ 6
 unfolding packed_flow
 length-packed_flow f = length-packed ListRecord (fields_of f)
-
--- fewer bytes than a record has are no record
-pub flow_short : (bs : List ℕ) → length bs < 6 → flow_of bs ≡ no_flow
-unfolding flow_of
-flow_short bs h = ap flow_with (values_short ListRecord bs h)
 
 -- the number that is read has 10 bits, the interval 13
 pub flow_small : (bs : List ℕ) → ((flow_of bs).number < 1024) × ((flow_of bs).interval < 8192)
@@ -91,6 +66,18 @@ flow_small bs = by_lt (length bs) 6 (λ h. rw (values_short ListRecord bs h) (om
     read (a ∷ []) f = absurd f.1
     read (a ∷ b ∷ []) f = absurd f.1.1
     read (a ∷ b ∷ c ∷ vs) f = (f.0, f.1.1.0)
+
+-- none of the four that are read has more than four digits
+pub flow_digits : (bs : List ℕ) → let f = flow_of bs in (f.number < 10000) × (f.size < 10000) × (f.interval < 10000) × (f.jitter < 10000)
+unfolding flow_of
+flow_digits bs = by_lt (length bs) 6 (λ h. rw (values_short ListRecord bs h) (omega arith, omega arith, omega arith, omega arith)) (λ h. read (values_of ListRecord bs) (values_fit ListRecord bs h))
+  where
+    read : (vs : List ℕ) → Fit (widths ListRecord) vs → (get_or vs 0 0 < 10000) × (get_or vs 1 0 < 10000) × (get_or vs 2 0 < 10000) × (get_or vs 3 0 < 10000)
+    read [] f = absurd f
+    read (a ∷ []) f = absurd f.1
+    read (a ∷ b ∷ []) f = absurd f.1.1
+    read (a ∷ b ∷ c ∷ []) f = absurd f.1.1.1
+    read (a ∷ b ∷ c ∷ d ∷ vs) f = (omega (arith, f.0), omega (arith, f.1.0), omega (arith, f.1.1.0), omega (arith, f.1.1.1.0))
 
 -- a record is read back, whatever stands behind it
 pub flow-packed : (f : Flow) (rest : List ℕ) → Keeps f → flow_of (packed_flow f ++ rest) ≡ f

@@ -1,12 +1,8 @@
 -- Document 01's "Flows, frame and cycle": a flow, its rule (test 4) and its record. Assumes nothing.
-use Rattle.std.specs.Prelude.{ℕ, Bool, cond, ◌&&◌, List, [], ◌∷◌, ltb, leb, get_or}
+use Rattle.std.specs.Prelude.{ℕ, Bool, cond, ◌&&◌, List, [], ◌∷◌, ltb, leb, get_or, Option, Some, None}
 use Rattle.logic.specs.Numbers.{among}
 use Rattle.fields.specs.declared.kind.Kind.TheVariants.{ListRecord}
 use Rattle.flows.specs.declared.flow.Flow.{Flow}
-use Rattle.flows.specs.declared.flow.Rule.{Rule}
-use Rattle.flows.specs.declared.flow.Rule.TheVariants.{Kept, Broken}
-use Rattle.flows.specs.declared.asked.Asked.{Asked}
-use Rattle.flows.specs.declared.asked.Asked.TheVariants.{Kept as KeptFlow, Broken as BrokenFlow}
 use Rattle.fields.specs.Records.{packed, values_of}
 
 -- "a number 1 to 1023, a size of 1 to 4,095 slots, an interval of 1 to 4,096 slots", "the size is at most the interval", "the
@@ -16,18 +12,13 @@ keeps f =
     among 1 1023 f.number && (among 1 4095 f.size && (among 1 4096 f.interval
     && (leb f.size f.interval && ltb f.jitter f.interval)))
 
--- what the rule says of a flow
-unfoldable pub rule : Flow → Rule
-unfolding keeps
-rule f = cond (keeps f) Kept Broken
-
 -- a flow out of four plain numbers, of any size
 abbrev pub new_flow : ℕ → ℕ → ℕ → ℕ → Flow
 new_flow number size interval jitter = record { number = number; size = size; interval = interval; jitter = jitter }
 
 -- the flow, if it keeps its rule
-abbrev pub asked : Flow → Asked
-asked f = cond (keeps f) (KeptFlow f) BrokenFlow
+abbrev pub asked : Flow → Option Flow
+asked f = cond (keeps f) (Some f) None
 
 -- what is read where there is no record
 abbrev pub no_flow : Flow

@@ -5,8 +5,5 @@ ghost use Rattle.std.specs.Prelude.{◌≡◌, ◌/◌};
 pub fn times(cycle: u16, interval: u16) -> u16
     ensures { result ≡ cycle / interval }
 {
-    if interval == 0 {
-        return 0;
-    }
-    cycle / interval
+    cycle.checked_div(interval).unwrap_or(0)
 }

@@ -1,7 +1,6 @@
 // A flow and its rule.
 ghost use Rattle.std.specs.Prelude.{◌≡◌};
-ghost use Rattle.logic.specs.Numbers.{among};
-ghost use Rattle.flows.specs.Flows.{rule};
+ghost use Rattle.flows.specs.Flows.{keeps, flow_with, fields_of};
 
 // A flow: its number, and in slots its size, its interval and the jitter that it tolerates.
 #[derive(Clone, Copy)]
@@ -10,20 +9,6 @@ pub struct Flow {
     pub size: u16,
     pub interval: u16,
     pub jitter: u16,
-}
-
-// What the rule of test 4 says of a flow.
-#[derive(Clone, Copy)]
-pub enum Rule {
-    Kept,
-    Broken,
-}
-
-// x is at least `low` and at most `high`.
-fn among(low: u16, high: u16, x: u16) -> bool
-    ensures { result ≡ among low high x }
-{
-    low <= x && x <= high
 }
 
 impl Flow {
@@ -35,26 +20,38 @@ impl Flow {
         jitter: 0,
     };
 
-    // Number 1 to 1023, size 1 to 4,095, interval 1 to 4,096, size at most the interval, jitter below it.
-    pub fn rule(self) -> Rule
-        ensures { result ≡ rule self }
+    // The rule of test 4: number 1 to 1023, size 1 to 4,095, interval 1 to 4,096, size at most the interval, jitter below it.
+    #[tactic(auto, unfolding(crate::specs::Flows::keeps))]
+    pub fn keeps(self) -> bool
+        ensures { result ≡ keeps self }
     {
-        let interval = self.interval;
-        if !among(1, 1023, self.number) {
-            return Rule::Broken;
+        (1..=1023).contains(&self.number)
+            && (1..=4095).contains(&self.size)
+            && (1..=4096).contains(&self.interval)
+            && self.size <= self.interval
+            && self.jitter < self.interval
+    }
+}
+
+// The flow of a record's fields.
+impl From<[u16; 6]> for Flow {
+    ghost from_gives = { λ values flow. flow ≡ flow_with values };
+
+    fn from(values: [u16; 6]) -> Flow {
+        Flow {
+            number: values[0],
+            size: values[1],
+            interval: values[2],
+            jitter: values[3],
         }
-        if !among(1, 4095, self.size) {
-            return Rule::Broken;
-        }
-        if !among(1, 4096, interval) {
-            return Rule::Broken;
-        }
-        if interval < self.size {
-            return Rule::Broken;
-        }
-        if interval <= self.jitter {
-            return Rule::Broken;
-        }
-        Rule::Kept
+    }
+}
+
+// The fields of a flow's record.
+impl From<Flow> for [u16; 6] {
+    ghost from_gives = { λ flow values. values ≡ fields_of flow };
+
+    fn from(flow: Flow) -> [u16; 6] {
+        [flow.number, flow.size, flow.interval, flow.jitter, 0, 0]
     }
 }

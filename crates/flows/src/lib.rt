@@ -7,6 +7,6 @@ mod asked;
 mod cycle;
 mod flow;
 
-pub use asked::{Asked, new_flow};
+pub use asked::new_flow;
 pub use cycle::times;
-pub use flow::{Flow, Rule};
+pub use flow::Flow;

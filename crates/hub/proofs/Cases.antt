@@ -9,8 +9,7 @@ use Rattle.fields.specs.Records.{packed, values_of}
 use Rattle.flows.specs.Flows.{keeps, flow_of, packed_flow}
 use Rattle.refusals.specs.declared.Refusal.{Refusal}
 use Rattle.refusals.specs.declared.Refusal.TheVariants.{Overload, NoFrame, GrantCount, Timing, Overlap}
-use Rattle.refusals.specs.declared.Checked.{Checked}
-use Rattle.refusals.specs.declared.Checked.TheVariants.{Passed, Refused}
+use Rattle.refusals.specs.Results.{Checked, Passed, Refused}
 use Rattle.refusals.specs.Tests.{lowest, against, after}
 use Rattle.lists.specs.Lists.{head, head_of, count, flow_at, flows_from, flows_of, records, list_of}
 use Rattle.lists.specs.Facts.{occupies, related, cycle, least, frame, grants_of, grants, load}

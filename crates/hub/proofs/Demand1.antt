@@ -15,11 +15,9 @@ use Rattle.logic.proofs.Tests.{by_lt, and_both}
 use Rattle.flows.specs.declared.flow.Flow.{Flow}
 use Rattle.flows.specs.Flows.{new_flow}
 use Rattle.refusals.specs.declared.Refusal.{Refusal}
-use Rattle.refusals.specs.declared.Checked.{Checked}
-use Rattle.refusals.specs.declared.Checked.TheVariants.{Passed, Refused}
+use Rattle.std.proofs.Common.{Ok, Err}
+use Rattle.refusals.specs.Results.{Checked, Passed, Refused, Written}
 use Rattle.refusals.specs.declared.Refusal.TheVariants.{Room, Encoding, MissingSetting, NotWhole, BelowBase}
-use Rattle.refusals.specs.declared.Written.{Written}
-use Rattle.refusals.specs.declared.Written.TheVariants.{Bytes, Refused as Stopped}
 use Rattle.refusals.specs.Tests.{◌⟫◌}
 use Rattle.refusals.specs.Answers.{answer, written}
 use Rattle.refusals.specs.First.{in_order, FirstFault, LowestPlace}
@@ -37,8 +35,6 @@ use Rattle.tables.specs.Form.{test11, test12, form_tests}
 use Rattle.windows.specs.Window.{test19, window_tests}
 use Rattle.law.specs.Check.{test18, tests14to18, law_tests, check}
 use Rattle.planner.specs.Plan.{test8, test9, test10, plan_tests, plan_table, plan_answer}
-use Rattle.offsets.specs.declared.Added.{Added}
-use Rattle.offsets.specs.declared.Added.TheVariants.{Offset, Refused as NotAdded}
 use Rattle.offsets.specs.Adding.{with_new, test9 as both_rooms, test22, new_tests, list_bytes, table_bytes, add_tests, offset_found, new_list, new_table, table_added, add_answer, room_of_list as new_list_room, room_of_table as new_table_room}
 use Rattle.settings.specs.Runs.{items}
 use Rattle.settings.specs.Encodings.{sound, complete}
@@ -56,8 +52,8 @@ use Rattle.offsets.proofs.Adding.{each_passed, answered}
 -- ---- the chains are the operations' tests
 
 one_last : (a : Checked) → (a ⟫ Passed) ≡ a
-one_last Passed = refl
-one_last (Refused r) = refl
+one_last (Ok tt) = refl
+one_last (Err r) = refl
 
 -- tests behind others
 in_order-append : (xs ys : List Checked) → in_order (xs ++ ys) ≡ (in_order xs ⟫ in_order ys)
@@ -150,22 +146,22 @@ exactly : (ts : List Checked) (c : Checked) → in_order ts ≡ c → (r : Refus
 exactly ts c e r = let f = first_fault ts r in (λ h. f.0 (e ∙ h), λ h. sym e ∙ f.1 h)
 
 -- an operation that makes bytes where its tests pass refuses by them, and then by the room
-answer_tests : (c : Checked) (bs : List ℕ) (n : ℕ) (r : Refusal) → (answer c bs n ≡ Stopped r) ↔ ((c ⟫ room_test bs n) ≡ Refused r)
+answer_tests : (c : Checked) (bs : List ℕ) (n : ℕ) (r : Refusal) → (answer c bs n ≡ Err r) ↔ ((c ⟫ room_test bs n) ≡ Refused r)
 unfolding answer room_test
-answer_tests (Refused q) bs n r = (λ e. let z : q ≡ r = cc in ap (λ (x : Refusal). Refused x) z, λ e. let z : q ≡ r = cc in ap (λ (x : Refusal). Stopped x) z)
-answer_tests Passed bs n r =
+answer_tests (Err q) bs n r = (λ e. let z : q ≡ r = cc in ap (λ (x : Refusal). Refused x) z, λ e. let z : q ≡ r = cc in ap (λ (x : Refusal). Err x) z)
+answer_tests (Ok tt) bs n r =
     by_lt n (length bs)
-    (λ h. rw (lt-ltb n (length bs) h, lt-leb (length bs) n h) (λ e. let z : Room ≡ r = cc in ap (λ (x : Refusal). Refused x) z, λ e. let z : Room ≡ r = cc in ap (λ (x : Refusal). Stopped x) z))
+    (λ h. rw (lt-ltb n (length bs) h, lt-leb (length bs) n h) (λ e. let z : Room ≡ r = cc in ap (λ (x : Refusal). Refused x) z, λ e. let z : Room ≡ r = cc in ap (λ (x : Refusal). Err x) z))
     (λ h. rw (le-ltb n (length bs) h, le-leb (length bs) n h) (λ e. let z : ◌≡◌ {A = ℕ} 0 1 = cc in absurd (omega arith), λ e. let z : ◌≡◌ {A = ℕ} 0 1 = cc in absurd (omega arith)))
 
-writes_exactly : (ts : List Checked) (c : Checked) (bs : List ℕ) (n : ℕ) → in_order ts ≡ (c ⟫ room_test bs n) → (r : Refusal) → (answer c bs n ≡ Stopped r) ↔ FirstFault ts r
+writes_exactly : (ts : List Checked) (c : Checked) (bs : List ℕ) (n : ℕ) → in_order ts ≡ (c ⟫ room_test bs n) → (r : Refusal) → (answer c bs n ≡ Err r) ↔ FirstFault ts r
 writes_exactly ts c bs n e r =
     let a = answer_tests c bs n r in
     let f = exactly ts (c ⟫ room_test bs n) e r in
     (λ h. f.0 (a.0 h), λ h. a.1 (f.1 h))
 
 -- sheet to list refuses exactly by the first of tests 20, 3, 4 and 9 that finds fault
-pub list_from_sheet_refuses : (s : List ℕ) (n : ℕ) (r : Refusal) → (list_answer s n ≡ Stopped r) ↔ FirstFault (sheet_chain s n) r
+pub list_from_sheet_refuses : (s : List ℕ) (n : ℕ) (r : Refusal) → (list_answer s n ≡ Err r) ↔ FirstFault (sheet_chain s n) r
 unfolding sheet_tests
 list_from_sheet_refuses s n =
     writes_exactly (sheet_chain s n) (sheet_tests s) (list_of (flows_in s)) n
@@ -173,13 +169,13 @@ list_from_sheet_refuses s n =
     ∙ ap₂ ◌⟫◌ (last_three (test20 s) (test3 (length (flows_in s))) (test4 (flows_in s))) (last_one (room_test (list_of (flows_in s)) n)))
 
 -- list to sheet refuses exactly by the first of tests 1 to 4 and 9 that finds fault
-pub sheet_from_list_refuses : (l : List ℕ) (n : ℕ) (r : Refusal) → (sheet_answer l n ≡ Stopped r) ↔ FirstFault (list_chain l n) r
+pub sheet_from_list_refuses : (l : List ℕ) (n : ℕ) (r : Refusal) → (sheet_answer l n ≡ Err r) ↔ FirstFault (list_chain l n) r
 sheet_from_list_refuses l n =
     writes_exactly (list_chain l n) (tests1to4 l) (text (flows_of l)) n
     (in_order-append (chain1to4 l) (room_test (text (flows_of l)) n ∷ []) ∙ ap₂ ◌⟫◌ (tests_1_to_4 l) (last_one (room_test (text (flows_of l)) n)))
 
 -- planning refuses exactly by the first of tests 1 to 10 that finds fault
-pub plan_refuses : (l : List ℕ) (n : ℕ) (r : Refusal) → (plan_answer l n ≡ Stopped r) ↔ FirstFault (plan_chain l n) r
+pub plan_refuses : (l : List ℕ) (n : ℕ) (r : Refusal) → (plan_answer l n ≡ Err r) ↔ FirstFault (plan_chain l n) r
 unfolding plan_answer answer
 plan_refuses l n r =
     let f = exactly (plan_chain l n) (plan_tests l n) (plan_tests_lem l n) r in (
@@ -187,12 +183,12 @@ plan_refuses l n r =
       λ h. rw (f.1 h),
     )
   where
-    refused : (c : Checked) → plan_tests l n ≡ c → answer c (plan_table l) n ≡ Stopped r → plan_tests l n ≡ Refused r
-    refused Passed e h =
-        let z : Bytes (place (grants (flows_of l))) ≡ Stopped r = sym (plan-answers l n e) ∙ ap (λ (c : Checked). answer c (plan_table l) n) e ∙ h in
+    refused : (c : Checked) → plan_tests l n ≡ c → answer c (plan_table l) n ≡ Err r → plan_tests l n ≡ Refused r
+    refused (Ok tt) e h =
+        let z : Ok (place (grants (flows_of l))) ≡ Err r = sym (plan-answers l n e) ∙ ap (λ (c : Checked). answer c (plan_table l) n) e ∙ h in
         let z' : ◌≡◌ {A = ℕ} 0 1 = cc in
         absurd (omega arith)
-    refused (Refused q) e h = let z : q ≡ r = cc in e ∙ ap (λ (x : Refusal). Refused x) z
+    refused (Err q) e h = let z : q ≡ r = cc in e ∙ ap (λ (x : Refusal). Refused x) z
 
 -- the check refuses exactly by the first of tests 1 to 7 and 11 to 18 that finds fault
 pub check_refuses : (l t : List ℕ) (r : Refusal) → (check l t ≡ Refused r) ↔ FirstFault (check_chain l t) r
@@ -203,23 +199,23 @@ pub window_refuses : (t : List ℕ) (a b : ℕ) (r : Refusal) → (window_tests 
 window_refuses t a b = exactly (window_chain t a b) (window_tests t a b) (window_tests_lem t a b)
 
 -- live add answers a refusal exactly where its tests refuse
-pub add-stops : (l t : List ℕ) (f : Flow) (n m : ℕ) (r : Refusal) → (add_answer l t f n m ≡ NotAdded r) ↔ (add_tests l t f n m ≡ Refused r)
+pub add-stops : (l t : List ℕ) (f : Flow) (n m : ℕ) (r : Refusal) → (add_answer l t f n m ≡ Err r) ↔ (add_tests l t f n m ≡ Refused r)
 unfolding add_answer
 add-stops l t f n m r = (go (add_tests l t f n m), λ e. rw (e, add_answer))
   where
-    go : (c : Checked) → elim c [ Passed ↦ Offset (offset_found (flows_of l) (grants_of t) f) | Refused q ↦ NotAdded q ] ≡ NotAdded r → c ≡ Refused r
-    go Passed e = let z : ◌≡◌ {A = ℕ} 0 1 = cc in absurd (omega arith)
-    go (Refused q) e = let z : q ≡ r = cc in ap (λ (x : Refusal). Refused x) z
+    go : (c : Checked) → ◌≡◌ {A = Written} (elim c [ Ok _ ↦ Ok (offset_found (flows_of l) (grants_of t) f) | Err q ↦ Err q ]) (Err r) → c ≡ Refused r
+    go (Ok tt) e = let z : ◌≡◌ {A = ℕ} 0 1 = cc in absurd (omega arith)
+    go (Err q) e = let z : q ≡ r = cc in ap (λ (x : Refusal). Refused x) z
 
 -- live add refuses exactly by the first of its tests that finds fault
-pub add_refuses : (l t : List ℕ) (f : Flow) (n m : ℕ) (r : Refusal) → (add_answer l t f n m ≡ NotAdded r) ↔ FirstFault (add_chain l t f n m) r
+pub add_refuses : (l t : List ℕ) (f : Flow) (n m : ℕ) (r : Refusal) → (add_answer l t f n m ≡ Err r) ↔ FirstFault (add_chain l t f n m) r
 add_refuses l t f n m r =
     let stops = add-stops l t f n m r in
     let first = exactly (add_chain l t f n m) (add_tests l t f n m) (add_tests_lem l t f n m) r in
     (λ h. first.0 (stops.0 h), λ h. stops.1 (first.1 h))
 
 -- modem settings to list refuses exactly by the first of tests 26, 23, 24, 25, 3 to 6 and 9 that finds fault
-pub settings_refuses : (ch : Channel) (s : List ℕ) (n : ℕ) (r : Refusal) → (settings_answer ch s n ≡ Stopped r) ↔ FirstFault (settings_chain ch s n) r
+pub settings_refuses : (ch : Channel) (s : List ℕ) (n : ℕ) (r : Refusal) → (settings_answer ch s n ≡ Err r) ↔ FirstFault (settings_chain ch s n) r
 settings_refuses ch s n = writes_exactly (settings_chain ch s n) (settings_tests ch s) (list_of (flows_asked ch s)) n (settings_tests_lem ch s n)
 
 -- 23 names the first encoding that is not sound
@@ -238,7 +234,7 @@ unfolding test25
 settings_25 ch s = lowest-place NotWhole 1 (map (whole_slots ch) (items s))
 
 -- rounding refuses exactly by the first of tests 1 to 5, 27, 28, 4 on the new list, and 9 that finds fault
-pub round_refuses : (c : ℕ) (l : List ℕ) (n : ℕ) (r : Refusal) → (round_answer c l n ≡ Stopped r) ↔ FirstFault (round_chain c l n) r
+pub round_refuses : (c : ℕ) (l : List ℕ) (n : ℕ) (r : Refusal) → (round_answer c l n ≡ Err r) ↔ FirstFault (round_chain c l n) r
 round_refuses c l n = writes_exactly (round_chain c l n) (round_tests c l) (list_of (rounded_flows c (flows_of l))) n (round_tests_lem c l n)
 
 -- 28 names the first record whose interval is below the base
@@ -249,16 +245,16 @@ round_28 c fs = lowest-place BelowBase 1 (map (reaches c) fs)
 -- ---- a refusal alters no byte
 
 -- where an operation that writes refuses, its room is as it was
-pub refused_untouched : (c : Checked) (bs room : List ℕ) (r : Refusal) → answer c bs (length room) ≡ Stopped r → written c bs room ≡ room
+pub refused_untouched : (c : Checked) (bs room : List ℕ) (r : Refusal) → answer c bs (length room) ≡ Err r → written c bs room ≡ room
 unfolding answer written
-refused_untouched (Refused q) bs room r e = refl
-refused_untouched Passed bs room r e =
+refused_untouched (Err q) bs room r e = refl
+refused_untouched (Ok tt) bs room r e =
     by_lt (length room) (length bs) (λ h. rw (lt-ltb (length room) (length bs) h))
-    (λ h. let z : Bytes (length bs) ≡ Stopped r = rw (le-ltb (length room) (length bs) h) at e in let z' : ◌≡◌ {A = ℕ} 0 1 = cc in absurd (omega arith))
+    (λ h. let z : Ok (length bs) ≡ Err r = rw (le-ltb (length room) (length bs) h) at e in let z' : ◌≡◌ {A = ℕ} 0 1 = cc in absurd (omega arith))
 
 -- where live add refuses, both rooms are as they were
 pub add_untouched : (l t : List ℕ) (number size interval jitter : ℕ) (a b a' b' : List ℕ) (r : Refusal)
-    → LiveAdd l t number size interval jitter a b (NotAdded r) a' b' → (a' ≡ a) × (b' ≡ b)
+    → LiveAdd l t number size interval jitter a b (Err r) a' b' → (a' ≡ a) × (b' ≡ b)
 unfolding new_list_room new_table_room written
 add_untouched l t number size interval jitter a b a' b' r h =
     let f = new_flow number size interval jitter in
@@ -266,13 +262,13 @@ add_untouched l t number size interval jitter a b a' b' r h =
     (h.list_after ∙ rw e, h.table_after ∙ rw e)
 
 -- where modem settings are refused, the room is as it was
-pub settings_untouched : (microseconds bytes : ℕ) (s room room' : List ℕ) (r : Refusal) → ListFromSettings microseconds bytes s room (Stopped r) room' → room' ≡ room
+pub settings_untouched : (microseconds bytes : ℕ) (s room room' : List ℕ) (r : Refusal) → ListFromSettings microseconds bytes s room (Err r) room' → room' ≡ room
 settings_untouched microseconds bytes s room room' r h =
     let ch = channel microseconds bytes in
     h.bytes ∙ refused_untouched (settings_tests ch s) (list_of (flows_asked ch s)) room r (sym h.result)
 
 -- where rounding is refused, the room is as it was
-pub round_untouched : (c : ℕ) (l room room' : List ℕ) (r : Refusal) → RoundList c l room (Stopped r) room' → room' ≡ room
+pub round_untouched : (c : ℕ) (l room room' : List ℕ) (r : Refusal) → RoundList c l room (Err r) room' → room' ≡ room
 round_untouched c l room room' r h = h.bytes ∙ refused_untouched (round_tests c l) (list_of (rounded_flows c (flows_of l))) room r (sym h.result)
 
 -- ---- success writes exactly the needed bytes at the front, and the rest stays
@@ -290,19 +286,19 @@ roomy l t f n m e =
     (leb-true _ _ y.0, leb-true _ _ y.1)
 
 -- where either room is too short, be it only one, both are as they were
-pub add_short : (l t : List ℕ) (number size interval jitter : ℕ) (a b : List ℕ) (r : Added) (a' b' : List ℕ)
+pub add_short : (l t : List ℕ) (number size interval jitter : ℕ) (a b : List ℕ) (r : Written) (a' b' : List ℕ)
     → LiveAdd l t number size interval jitter a b r a' b'
     → let f = new_flow number size interval jitter in
     (length a < list_bytes (flows_of l) f) ⊎ (length b < table_bytes (flows_of l) (grants_of t) f) → (a' ≡ a) × (b' ≡ b)
-add_short l t number size interval jitter a b (NotAdded r) a' b' h s = add_untouched l t number size interval jitter a b a' b' r h
-add_short l t number size interval jitter a b (Offset o) a' b' h s =
+add_short l t number size interval jitter a b (Err r) a' b' h s = add_untouched l t number size interval jitter a b a' b' r h
+add_short l t number size interval jitter a b (Ok o) a' b' h s =
     let f = new_flow number size interval jitter in
     let y = roomy l t f (length a) (length b) (answered l t f (length a) (length b) o (sym h.result)).0 in
     ⊎_elim (λ p. absurd (omega (arith, y.0))) (λ p. absurd (omega (arith, y.1))) s
 
 -- live add writes the new list and the table with the new flow at the offset that it answers
 pub add_writes : (l t : List ℕ) (number size interval jitter : ℕ) (a b a' b' : List ℕ) (o : ℕ)
-    → LiveAdd l t number size interval jitter a b (Offset o) a' b'
+    → LiveAdd l t number size interval jitter a b (Ok o) a' b'
     → let f = new_flow number size interval jitter in
     (a' ≡ new_list l f ++ drop (length (new_list l f)) a) × (b' ≡ new_table l t f o ++ drop (length (new_table l t f o)) b)
 unfolding new_list_room new_table_room table_added
@@ -315,17 +311,17 @@ add_writes l t number size interval jitter a b a' b' o h =
     )
 
 -- an operation that makes bytes where its tests pass answers how many they are, and they stand at the front of its room
-answer_writes : (c : Checked) (bs room : List ℕ) (k : ℕ) → answer c bs (length room) ≡ Bytes k → (k ≡ length bs) × (written c bs room ≡ bs ++ drop (length bs) room)
+answer_writes : (c : Checked) (bs room : List ℕ) (k : ℕ) → answer c bs (length room) ≡ Ok k → (k ≡ length bs) × (written c bs room ≡ bs ++ drop (length bs) room)
 unfolding answer
-answer_writes (Refused q) bs room k e = let z : ◌≡◌ {A = ℕ} 0 1 = cc in absurd (omega arith)
-answer_writes Passed bs room k e =
+answer_writes (Err q) bs room k e = let z : ◌≡◌ {A = ℕ} 0 1 = cc in absurd (omega arith)
+answer_writes (Ok tt) bs room k e =
     by_lt (length room) (length bs)
-    (λ h. let z : Stopped Room ≡ Bytes k = rw (lt-ltb (length room) (length bs) h) at e in let z' : ◌≡◌ {A = ℕ} 0 1 = cc in absurd (omega arith))
-    (λ h. let z : Bytes (length bs) ≡ Bytes k = rw (le-ltb (length room) (length bs) h) at e in (cc, fills bs room h))
+    (λ h. let z : Err Room ≡ Ok k = rw (lt-ltb (length room) (length bs) h) at e in let z' : ◌≡◌ {A = ℕ} 0 1 = cc in absurd (omega arith))
+    (λ h. let z : Ok (length bs) ≡ Ok k = rw (le-ltb (length room) (length bs) h) at e in (cc, fills bs room h))
 
 -- modem settings to list writes the list of the flows that they ask for, and answers how many bytes it has
 pub settings_writes : (microseconds bytes : ℕ) (s room room' : List ℕ) (k : ℕ)
-    → ListFromSettings microseconds bytes s room (Bytes k) room'
+    → ListFromSettings microseconds bytes s room (Ok k) room'
     → let l = list_of (flows_asked (channel microseconds bytes) s) in
     (k ≡ length l) × (room' ≡ l ++ drop (length l) room)
 settings_writes microseconds bytes s room room' k h =
@@ -335,7 +331,7 @@ settings_writes microseconds bytes s room room' k h =
 
 -- rounding writes the list of the flows with their intervals rounded, and answers how many bytes it has
 pub round_writes : (c : ℕ) (l room room' : List ℕ) (k : ℕ)
-    → RoundList c l room (Bytes k) room'
+    → RoundList c l room (Ok k) room'
     → let l' = list_of (rounded_flows c (flows_of l)) in
     (k ≡ length l') × (room' ≡ l' ++ drop (length l') room)
 round_writes c l room room' k h =
@@ -359,7 +355,7 @@ pub window_once : (t : Bor (List ℕ)) (a b : ℕ) (r q : Bor (List ℕ)) → Wi
 window_once t a b r q w v = one_stretch t r q _ _ w v
 
 -- live add: its answer, and both rooms
-pub add_once : (l t : List ℕ) (number size interval jitter : ℕ) (a b : List ℕ) (r q : Added) (a' a'' b' b'' : List ℕ)
+pub add_once : (l t : List ℕ) (number size interval jitter : ℕ) (a b : List ℕ) (r q : Written) (a' a'' b' b'' : List ℕ)
     → LiveAdd l t number size interval jitter a b r a' b' → LiveAdd l t number size interval jitter a b q a'' b'' → (r ≡ q) × (a' ≡ a'') × (b' ≡ b'')
 add_once l t number size interval jitter a b r q a' a'' b' b'' x y =
     (x.result ∙ sym y.result, x.list_after ∙ sym y.list_after, x.table_after ∙ sym y.table_after)

@@ -6,8 +6,8 @@ use mathlib.Core.Logic.{◌↔◌}
 use mathlib.Core.List.{List, ◌++◌}
 use Prim.Native.Nat.{ℕ, ◌≤◌, ◌<◌}
 use lib.ListN.{length, get_or, take, drop}
-use Rattle.refusals.specs.declared.Checked.TheVariants.{Passed}
-use Rattle.refusals.specs.declared.Written.TheVariants.{Bytes}
+use Rattle.std.proofs.Common.{Ok}
+use Rattle.refusals.specs.Results.{Passed}
 use Rattle.refusals.proofs.Rooms.{written_front}
 use Rattle.refusals.proofs.Chains.{both_passed}
 use Rattle.lists.specs.Lists.{flows_of}
@@ -29,7 +29,7 @@ pub passes_exactly : (l t : List ℕ) → (check l t ≡ Passed) ↔ Lawful l t
 passes_exactly l t = check_is_lawful l t
 
 -- what planning writes into a room, in so many bytes, is the table of the grants that the placing rule names
-pub plan_is_the_rule : (l room : List ℕ) (k : ℕ) → plan_answer l (length room) ≡ Bytes k
+pub plan_is_the_rule : (l room : List ℕ) (k : ℕ) → plan_answer l (length room) ≡ Ok k
     → (gs : List Grant) × (planned (flows_of l) ≡ done gs) × (take k (plan_room l room) ≡ table_of (cycle (flows_of l)) (frame (flows_of l)) gs)
 unfolding plan_answer plan_room plan_table plan_tests
 plan_is_the_rule l room k e =
@@ -40,20 +40,20 @@ plan_is_the_rule l room k e =
     (grants_planned (flows_of l), placed (flows_of l) c.1, front.1)
 
 -- and it passes the check
-pub plan_table-passes : (l room : List ℕ) (k : ℕ) → plan_answer l (length room) ≡ Bytes k → check l (take k (plan_room l room)) ≡ Passed
+pub plan_table-passes : (l room : List ℕ) (k : ℕ) → plan_answer l (length room) ≡ Ok k → check l (take k (plan_room l room)) ≡ Passed
 unfolding plan_answer plan_room
 plan_table-passes l room k e =
     let front = written_front (plan_tests l (length room)) (plan_table l) room k e in
     rw front.1 (plan-passes l (length room) front.0)
 
 -- sheet → list → sheet: the same bytes, whatever the rooms held
-pub sheet_comes_back : (s room room' : List ℕ) (k : ℕ) → list_answer s (length room) ≡ Bytes k → length s ≤ length room'
+pub sheet_comes_back : (s room room' : List ℕ) (k : ℕ) → list_answer s (length room) ≡ Ok k → length s ≤ length room'
     → let l = take k (room_of_list s room) in
-    (sheet_answer l (length room') ≡ Bytes (length s)) × (sheet_room l room' ≡ s ++ drop (length s) room')
+    (sheet_answer l (length room') ≡ Ok (length s)) × (sheet_room l room' ≡ s ++ drop (length s) room')
 sheet_comes_back = RoundTrip.sheet_comes_back
 
 -- list → sheet → list: the same bytes, whatever the rooms held
-pub list_comes_back : (l room room' : List ℕ) (k : ℕ) → ((i : ℕ) → get_or l i 0 < 256) → sheet_answer l (length room) ≡ Bytes k → length l ≤ length room'
+pub list_comes_back : (l room room' : List ℕ) (k : ℕ) → ((i : ℕ) → get_or l i 0 < 256) → sheet_answer l (length room) ≡ Ok k → length l ≤ length room'
     → let s = take k (sheet_room l room) in
-    (list_answer s (length room') ≡ Bytes (length l)) × (room_of_list s room' ≡ l ++ drop (length l) room')
+    (list_answer s (length room') ≡ Ok (length l)) × (room_of_list s room' ≡ l ++ drop (length l) room')
 list_comes_back = RoundTrip.list_comes_back

@@ -10,7 +10,7 @@ use borrow.Author.Tests.{le-leb, leb-true}
 use Rattle.logic.proofs.Tests.{by_lt}
 use Rattle.refusals.specs.declared.Refusal.{Refusal}
 use Rattle.refusals.specs.declared.Refusal.TheVariants.{Overload, Room}
-use Rattle.refusals.specs.declared.Checked.TheVariants.{Passed, Refused}
+use Rattle.refusals.specs.Results.{Passed, Refused}
 use Rattle.refusals.proofs.Chains.{refused-not, both_passed, passed_both, unless_yes, unless_passed}
 use Rattle.lists.specs.Lists.{flows_of}
 use Rattle.lists.specs.Facts.{cycle, grants, load}

@@ -11,7 +11,8 @@ use Rattle.logic.proofs.Members.{all_imp}
 use Rattle.flows.specs.declared.flow.Flow.{Flow}
 use Rattle.flows.specs.Flows.{new_flow}
 use Rattle.refusals.specs.declared.Refusal.TheVariants.{NoOffset}
-use Rattle.refusals.specs.declared.Checked.TheVariants.{Passed}
+use Rattle.std.proofs.Common.{Ok, Err}
+use Rattle.refusals.specs.Results.{Passed, Written}
 use Rattle.lists.specs.Lists.{flows_of}
 use Rattle.lists.specs.Facts.{cycle, grants_of as grants_each}
 use Rattle.tables.specs.Tables.{grants_of}
@@ -19,8 +20,6 @@ use Rattle.tables.proofs.Meaning.{grants-table}
 use Rattle.law.specs.Check.{to, check}
 use Rattle.law.specs.Lawful.{Lawful}
 use Rattle.law.proofs.Demand.{check_is_lawful}
-use Rattle.offsets.specs.declared.Added.{Added}
-use Rattle.offsets.specs.declared.Added.TheVariants.{Offset, Refused as NotAdded}
 use Rattle.offsets.specs.Offsets.{new_grants}
 use Rattle.offsets.specs.Adding.{new_tests, test9, list_bytes, table_bytes, new_list, new_table_grants, new_table, add_answer}
 use Rattle.offsets.proofs.Among.{Prompt, from_prompt}
@@ -32,7 +31,7 @@ use Rattle.hub.specs.NewPair.{Stands, NewPair}
 use Rattle.hub.proofs.Demand1.{add-stops, add_writes}
 
 -- the new list and the new table, as live add's definitions have them
-made_pair : (l t : List ℕ) (f : Flow) (n m o : ℕ) → add_answer l t f n m ≡ Offset o → NewPair l t f o (new_list l f) (new_table l t f o)
+made_pair : (l t : List ℕ) (f : Flow) (n m o : ℕ) → add_answer l t f n m ≡ Ok o → NewPair l t f o (new_list l f) (new_table l t f o)
 unfolding new_grants new_table
 made_pair l t f n m o e =
     let p = each_passed l t f n m (answered l t f n m o e).0 in
@@ -54,7 +53,7 @@ made_pair l t f n m o e =
 
 module _ (l t : List ℕ) (number size interval jitter : ℕ) (a b : List ℕ) (a' b' : List ℕ) where
   -- where live add answers an offset, the new list stands at the front of one room and the new table at the front of the other
-  pub new_pair : (o : ℕ) → LiveAdd l t number size interval jitter a b (Offset o) a' b'
+  pub new_pair : (o : ℕ) → LiveAdd l t number size interval jitter a b (Ok o) a' b'
       → let f = new_flow number size interval jitter in
       NewPair l t f o (take (list_bytes (flows_of l) f) a') (take (table_bytes (flows_of l) (grants_of t) f) b')
   new_pair o h =
@@ -65,9 +64,9 @@ module _ (l t : List ℕ) (number size interval jitter : ℕ) (a b : List ℕ) (
       rw (list-front, table-front) (made_pair l t f (length a) (length b) o (sym h.result))
 
   -- 22 is answered exactly where the old list and table, the new list and both rooms pass and no offset gives a lawful table
-  pub no_offset_exactly : (r : Added) → LiveAdd l t number size interval jitter a b r a' b'
+  pub no_offset_exactly : (r : Written) → LiveAdd l t number size interval jitter a b r a' b'
       → let f = new_flow number size interval jitter in
-      (r ≡ NotAdded NoOffset)
+      (r ≡ Err NoOffset)
       ↔ ((check l t ≡ Passed) × (new_tests (flows_of l) f ≡ Passed) × (test9 (flows_of l) (grants_of t) f (length a) (length b) ≡ Passed) × ((o : ℕ) → o < interval → Lawful (new_list l f) (new_table l t f o) → ⊥))
   no_offset_exactly r h =
       let f = new_flow number size interval jitter in
@@ -76,7 +75,7 @@ module _ (l t : List ℕ) (number size interval jitter : ℕ) (a b : List ℕ) (
       (λ e. exactly.0 (stops.0 (sym h.result ∙ e)), λ p. h.result ∙ stops.1 (exactly.1 p))
 
   -- and then no table at all that is lawful for the new list leaves everyone where they are, with the new flow's grants not late
-  pub no_offset-none : LiveAdd l t number size interval jitter a b (NotAdded NoOffset) a' b'
+  pub no_offset-none : LiveAdd l t number size interval jitter a b (Err NoOffset) a' b'
       → let f = new_flow number size interval jitter in
       (u : List ℕ) → Lawful (new_list l f) u → Stands t f u → ⊥
   no_offset-none h u w s =

@@ -9,9 +9,8 @@ use Rattle.logic.specs.Lists.{every, sum}
 use Rattle.fields.specs.Records.{packed, values_of}
 use Rattle.flows.specs.Flows.{keeps, flow_of, packed_flow}
 use Rattle.refusals.specs.declared.Refusal.TheVariants.{Unrelated}
-use Rattle.refusals.specs.declared.Checked.TheVariants.{Passed, Refused}
-use Rattle.refusals.specs.declared.Written.{Written}
-use Rattle.refusals.specs.declared.Written.TheVariants.{Bytes}
+use Rattle.std.proofs.Common.{Ok}
+use Rattle.refusals.specs.Results.{Passed, Refused, Written}
 use Rattle.refusals.specs.Tests.{lowest, against}
 use Rattle.refusals.proofs.Rooms.{ends-written}
 use Rattle.lists.specs.Lists.{head, head_of, count, flow_at, flows_from, flows_of, records, list_of}
@@ -45,7 +44,7 @@ paging-bytes = refl
 
 -- and they stand at the front of any room that is long enough
 pub paging-answered : (room : List ℕ) → 22 ≤ length room → (r : Written) (room' : List ℕ) → RoundList 20 (list_of paging) room r room'
-    → (r ≡ Bytes 22) × (room' ≡ list_of paging_rounded ++ drop 22 room)
+    → (r ≡ Ok 22) × (room' ≡ list_of paging_rounded ++ drop 22 room)
 paging-answered room h r room' s =
     let new = list_of (rounded_flows 20 (flows_of (list_of paging))) in
     let long : length new ≡ 22 = rw (rounds.1, paging-bytes) in

@@ -14,9 +14,8 @@ use Rattle.flows.specs.declared.flow.Flow.{Flow}
 use Rattle.flows.specs.Flows.{keeps, no_flow}
 use Rattle.flows.proofs.Flows.{keeps_is}
 use Rattle.refusals.specs.declared.Refusal.{Refusal}
-use Rattle.refusals.specs.declared.Checked.TheVariants.{Passed, Refused}
-use Rattle.refusals.specs.declared.Written.{Written}
-use Rattle.refusals.specs.declared.Written.TheVariants.{Bytes}
+use Rattle.std.proofs.Common.{Ok}
+use Rattle.refusals.specs.Results.{Passed, Refused, Written}
 use Rattle.refusals.proofs.Chains.{both_passed}
 use Rattle.refusals.proofs.Rooms.{ends-written, written_front}
 use Rattle.lists.specs.Lists.{count, place, flow_at, flows_of, list_of}
@@ -51,7 +50,7 @@ each_at c [] gs e i h = absurd (omega (arith, h))
 each_at c (f ∷ fs) gs (g, rest, e, b, more) zero h = rw e b
 each_at c (f ∷ fs) gs (g, rest, e, b, more) (suc i) h = rw e (each_at c fs rest more i (omega (arith, h)))
 
-module _ (c : ℕ) (l room room' : List ℕ) (n : ℕ) (h : RoundList c l room (Bytes n) room') where
+module _ (c : ℕ) (l room room' : List ℕ) (n : ℕ) (h : RoundList c l room (Ok n) room') where
   -- the list that is written
   abbrev new : List ℕ
   new = take n room'
@@ -111,7 +110,7 @@ module _ (c : ℕ) (l room room' : List ℕ) (n : ℕ) (h : RoundList c l room (
 
   -- rounded again to the same base, into any room that is long enough, it comes back
   pub rounded_again : (again : List ℕ) → n ≤ length again → (r : Written) (again' : List ℕ) → RoundList c new again r again'
-      → (r ≡ Bytes n) × (again' ≡ new ++ drop n again)
+      → (r ≡ Ok n) × (again' ≡ new ++ drop n again)
   rounded_again again fits r again' s =
       let twice : (round_tests c new ≡ Passed) × (list_of (rounded_flows c (flows_of new)) ≡ new) = rw front.1 (list_twice c l front.0) in
       let long : n ≡ length new = rw front.1 (round_writes c l room room' n h).0 in
@@ -143,7 +142,7 @@ lawful_base (suc a) (f ∷ fs) gs some ruled (g, rest, e, b, more) =
 -- where a list passes 1 to 5 and some list comes of it for which there is room, the bytes of that list are answered; that the base is
 -- neither 0 nor over 4,096 is not asked, since no list comes of it then
 pub round_accepts : (c : ℕ) (l l' : List ℕ) → tests1to5 l ≡ Passed → Rounded c l l'
-    → (room : List ℕ) → length l' ≤ length room → (q : Written) (room' : List ℕ) → RoundList c l room q room' → q ≡ Bytes (length l')
+    → (room : List ℕ) → length l' ≤ length room → (q : Written) (room' : List ℕ) → RoundList c l room q room' → q ≡ Ok (length l')
 round_accepts c l l' pass r room fits q room' h =
     let old = listed l (fields_pass l pass) in
     let made = listed l' (fields_pass l' r.passes) in

@@ -9,9 +9,8 @@ use lib.ListN.{length, get_or, take}
 use borrow.Author.Tests.{lt-ltb, le-ltb, eq-eqb}
 use Rattle.logic.specs.Lists.{All}
 use Rattle.refusals.specs.declared.Refusal.TheVariants.{NotWhole}
-use Rattle.refusals.specs.declared.Checked.TheVariants.{Passed}
-use Rattle.refusals.specs.declared.Written.{Written}
-use Rattle.refusals.specs.declared.Written.TheVariants.{Bytes}
+use Rattle.std.proofs.Common.{Ok}
+use Rattle.refusals.specs.Results.{Passed, Written}
 use Rattle.refusals.specs.Tests.{◌⟫◌}
 use Rattle.refusals.specs.Answers.{answer}
 use Rattle.refusals.proofs.Chains.{both_passed, passed_both}
@@ -30,7 +29,7 @@ use Rattle.settings.proofs.Passes.{passing, list_passes_1_to_6}
 use Rattle.hub.specs.Statements.{ListFromSettings}
 use Rattle.hub.specs.Converted.{Converted}
 
-module _ (microseconds bytes : ℕ) (s room room' : List ℕ) (n : ℕ) (h : ListFromSettings microseconds bytes s room (Bytes n) room') where
+module _ (microseconds bytes : ℕ) (s room room' : List ℕ) (n : ℕ) (h : ListFromSettings microseconds bytes s room (Ok n) room') where
   abbrev ch : Channel
   ch = channel microseconds bytes
 
@@ -87,7 +86,7 @@ count-and_fields l e =
 pub settings_answered : (microseconds bytes : ℕ) → 0 < microseconds → 0 < bytes
     → (asked : List Amounts) (s : List ℕ) → RunOf asked s → All (λ a. a.interval % microseconds ≡ 0) asked
     → (l : List ℕ) → Converted (channel microseconds bytes) asked l
-    → (room : List ℕ) → length l ≤ length room → (q : Written) (room' : List ℕ) → ListFromSettings microseconds bytes s room q room' → q ≡ Bytes (length l)
+    → (room : List ℕ) → length l ≤ length room → (q : Written) (room' : List ℕ) → ListFromSettings microseconds bytes s room q room' → q ≡ Ok (length l)
 unfolding settings_tests test26 test25 answer
 settings_answered microseconds bytes m b asked s r w l c room fits q room' h =
     let ch = channel microseconds bytes in

@@ -2,7 +2,7 @@
 use Rattle.std.specs.Prelude.{List, [], ◌∷◌, ◌++◌, ℕ, leb, length}
 use Rattle.flows.specs.declared.flow.Flow.{Flow}
 use Rattle.refusals.specs.declared.Refusal.TheVariants.{Room}
-use Rattle.refusals.specs.declared.Checked.{Checked}
+use Rattle.refusals.specs.Results.{Checked}
 use Rattle.refusals.specs.Tests.{unless}
 use Rattle.lists.specs.Lists.{count, flows_of, list_of}
 use Rattle.sheets.specs.Texts.{text}

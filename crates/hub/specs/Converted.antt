@@ -1,6 +1,6 @@
 -- What modem settings become, in document 02's words (L2). Assumes nothing.
 use Rattle.std.specs.Prelude.{◌≡◌, List, ℕ}
-use Rattle.refusals.specs.declared.Checked.TheVariants.{Passed}
+use Rattle.refusals.specs.Results.{Passed}
 use Rattle.lists.specs.Lists.{flows_of}
 use Rattle.lists.specs.Tests.{test5, test6, tests1to4}
 use Rattle.settings.specs.Form.{Amounts}

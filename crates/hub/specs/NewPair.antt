@@ -2,7 +2,7 @@
 use Rattle.std.specs.Prelude.{◌≡◌, List, [], ◌∷◌, ◌++◌, ℕ, ◌<◌}
 use Rattle.logic.specs.Lists.{All}
 use Rattle.flows.specs.declared.flow.Flow.{Flow}
-use Rattle.refusals.specs.declared.Checked.TheVariants.{Passed}
+use Rattle.refusals.specs.Results.{Passed}
 use Rattle.lists.specs.Lists.{flows_of}
 use Rattle.lists.specs.Facts.{cycle}
 use Rattle.tables.specs.Tables.{grants_of}

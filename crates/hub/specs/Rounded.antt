@@ -1,6 +1,6 @@
 -- What a list becomes when its intervals are rounded to a base, in document 02's words (L3). Assumes nothing.
 use Rattle.std.specs.Prelude.{◌≡◌, List, ℕ}
-use Rattle.refusals.specs.declared.Checked.TheVariants.{Passed}
+use Rattle.refusals.specs.Results.{Passed}
 use Rattle.lists.specs.Lists.{flows_of}
 use Rattle.lists.specs.Tests.{tests1to5}
 use Rattle.bases.specs.Becomes.{EachBecomes}

@@ -3,13 +3,11 @@
 use Rattle.std.specs.Prelude.{◌≡◌, List, ℕ, length}
 use Rattle.std.specs.Borrow.{Bor}
 use Rattle.flows.specs.Flows.{new_flow}
-use Rattle.refusals.specs.declared.Checked.{Checked}
-use Rattle.refusals.specs.declared.Written.{Written}
+use Rattle.refusals.specs.Results.{Checked, Written}
 use Rattle.sheets.specs.Answers.{list_answer, room_of_list, sheet_answer, sheet_room}
 use Rattle.windows.specs.Window.{window_tests, edge, Stretch}
 use Rattle.law.specs.Check.{check}
 use Rattle.planner.specs.Plan.{plan_answer, plan_room}
-use Rattle.offsets.specs.declared.Added.{Added}
 use Rattle.offsets.specs.Adding.{add_answer, room_of_list as new_list_room, room_of_table as new_table_room}
 use Rattle.settings.specs.Slots.{channel}
 use Rattle.settings.specs.Tests.{settings_answer, settings_room}
@@ -41,7 +39,7 @@ abbrev pub Window : Bor (List ℕ) → ℕ → ℕ → Bor (List ℕ) → Type 0
 Window t a b r = Stretch t r (edge (window_tests t.now a b) t.now a) (edge (window_tests t.now a b) t.now b)
 
 -- live add of the flow with these four numbers: r is its answer, and a' and b' are the list's room a and the table's room b afterwards
-pub record LiveAdd (l t : List ℕ) (number size interval jitter : ℕ) (a b : List ℕ) (r : Added) (a' b' : List ℕ) : Type 0 where
+pub record LiveAdd (l t : List ℕ) (number size interval jitter : ℕ) (a b : List ℕ) (r : Written) (a' b' : List ℕ) : Type 0 where
   pub result : r ≡ add_answer l t (new_flow number size interval jitter) (length a) (length b)
   pub list_after : a' ≡ new_list_room l t (new_flow number size interval jitter) a (length b)
   pub table_after : b' ≡ new_table_room l t (new_flow number size interval jitter) (length a) b

@@ -3,7 +3,6 @@
 // space of names.
 ghost use Rattle.std.specs.Prelude.{◌≡◌, length};
 ghost use Rattle.flows.specs.Flows.{new_flow};
-ghost use Rattle.refusals.specs.Refusals.{number, place};
 ghost use Rattle.sheets.specs.Answers.{list_answer, room_of_list, sheet_answer, sheet_room};
 ghost use Rattle.law.specs.Check.{check};
 ghost use Rattle.planner.specs.Plan.{plan_answer, plan_room};
@@ -12,30 +11,23 @@ ghost use Rattle.offsets.specs.Adding.{add_answer, room_of_list as new_list_room
 ghost use Rattle.settings.specs.Slots.{channel};
 ghost use Rattle.settings.specs.Tests.{settings_answer, settings_room};
 ghost use Rattle.bases.specs.Tests.{round_answer, round_room};
-ghost use Rattle.hub.specs.Codes.{code, value, check_code, check_value, window_code, window_first, window_bytes, add_code, add_value};
+ghost use Rattle.hub.specs.Codes.{code, value, check_value, window_first, window_bytes};
 
-use offsets::Added;
-use refusals::{Checked, Refusal, Written};
-use windows::Edges;
+use refusals::Refusal;
 
-// A refusal as its number, with the place through the pointer.
-fn refused(r: Refusal, out: &mut u64) -> u32
-    ensures { (result ≡ number r) × (out.new ≡ place r) }
+// An answer as a number, with the value or the place through the pointer.
+fn report(answer: Result<usize, Refusal>, out: &mut u64) -> u32
+    ensures { (result ≡ code answer) × (out.new ≡ value answer) }
 {
-    *out = r.place() as u64;
-    r.number()
-}
-
-// What was written as a number, with the bytes or the place through the pointer.
-fn report(made: Written, out: &mut u64) -> u32
-    ensures { (result ≡ code made) × (out.new ≡ value made) }
-{
-    match made {
-        Written::Bytes(n) => {
+    match answer {
+        Ok(n) => {
             *out = n as u64;
             0
         }
-        Written::Refused(r) => refused(r, out),
+        Err(r) => {
+            *out = r.place() as u64;
+            r.number()
+        }
     }
 }
 
@@ -45,8 +37,7 @@ pub fn snowploughy_list_from_sheet(sheet: &[u8], room: &mut [u8], out: &mut u64)
     ensures value { out.new ≡ value (list_answer sheet.now (length room.old)) }
     ensures room { room.new ≡ room_of_list sheet.now room.old }
 {
-    let made = reading::list_from_sheet(sheet, room);
-    report(made, out)
+    report(reading::list_from_sheet(sheet, room), out)
 }
 
 // List to sheet: tests 1 to 4 and 9.
@@ -55,8 +46,7 @@ pub fn snowploughy_sheet_from_list(list: &[u8], room: &mut [u8], out: &mut u64) 
     ensures value { out.new ≡ value (sheet_answer list.now (length room.old)) }
     ensures room { room.new ≡ sheet_room list.now room.old }
 {
-    let made = printing::sheet_from_list(list, room);
-    report(made, out)
+    report(printing::sheet_from_list(list, room), out)
 }
 
 // Planning: tests 1 to 10.
@@ -65,56 +55,34 @@ pub fn snowploughy_plan(list: &[u8], room: &mut [u8], out: &mut u64) -> u32
     ensures value { out.new ≡ value (plan_answer list.now (length room.old)) }
     ensures room { room.new ≡ plan_room list.now room.old }
 {
-    let made = planner::plan(list, room);
-    report(made, out)
+    report(planner::plan(list, room), out)
 }
 
 // The check of a table against its list: tests 1 to 7 and 11 to 18. It writes nothing but the place.
 pub fn snowploughy_check(list: &[u8], table: &[u8], out: &mut u64) -> u32
-    ensures number { result ≡ check_code (check list.now table.now) }
+    ensures number { result ≡ code (check list.now table.now) }
     ensures value { out.new ≡ check_value (check list.now table.now) }
 {
-    let checked = checking::check(list, table);
-    match checked {
-        Checked::Passed => {
-            *out = 0;
-            0
-        }
-        Checked::Refused(r) => refused(r, out),
-    }
+    report(checking::check(list, table).map(|()| 0), out)
 }
 
 // The grants that start in a window, as a stretch of the table: tests 11, 12 and 19.
 pub fn snowploughy_window(table: &[u8], a: u64, b: u64, first: &mut u64, bytes: &mut u64) -> u32
-    ensures number { result ≡ window_code (edges_of table.now a b) }
+    ensures number { result ≡ code (edges_of table.now a b) }
     ensures first { first.new ≡ window_first (edges_of table.now a b) }
     ensures bytes { bytes.new ≡ window_bytes (edges_of table.now a b) }
 {
-    let edges = windows::edges_of(table, a, b);
-    match edges {
-        Edges::Bytes(i, e) => {
-            *first = i as u64;
-            *bytes = (e - i) as u64;
+    match windows::edges_of(table, a, b) {
+        Ok(edges) => {
+            *first = edges.start as u64;
+            *bytes = edges.len() as u64;
             0
         }
-        Edges::Refused(r) => {
+        Err(r) => {
             *first = 0;
             *bytes = 0;
             r.number()
         }
-    }
-}
-
-// What was added as a number, with the offset or the place through the pointer.
-fn report_added(added: Added, out: &mut u64) -> u32
-    ensures { (result ≡ add_code added) × (out.new ≡ add_value added) }
-{
-    match added {
-        Added::Offset(offset) => {
-            *out = offset as u64;
-            0
-        }
-        Added::Refused(r) => refused(r, out),
     }
 }
 
@@ -131,15 +99,15 @@ pub fn snowploughy_live_add(
     table_room: &mut [u8],
     out: &mut u64,
 ) -> u32
-    ensures number { result ≡ add_code (add_answer list.now table.now (new_flow number size interval jitter) (length list_room.old) (length table_room.old)) }
-    ensures value { out.new ≡ add_value (add_answer list.now table.now (new_flow number size interval jitter) (length list_room.old) (length table_room.old)) }
+    ensures number { result ≡ code (add_answer list.now table.now (new_flow number size interval jitter) (length list_room.old) (length table_room.old)) }
+    ensures value { out.new ≡ value (add_answer list.now table.now (new_flow number size interval jitter) (length list_room.old) (length table_room.old)) }
     ensures list_room { list_room.new ≡ new_list_room list.now table.now (new_flow number size interval jitter) list_room.old (length table_room.old) }
     ensures table_room { table_room.new ≡ new_table_room list.now table.now (new_flow number size interval jitter) (length list_room.old) table_room.old }
 {
     let added = adding::live_add(
         list, table, number, size, interval, jitter, list_room, table_room,
     );
-    report_added(added, out)
+    report(added, out)
 }
 
 // Modem settings to list, for a slot length in microseconds and bytes in a slot: tests 26, 23, 24, 25, 3 to 6 and 9.
@@ -154,8 +122,10 @@ pub fn snowploughy_list_from_settings(
     ensures value { out.new ≡ value (settings_answer (channel slot_microseconds slot_bytes) settings.now (length room.old)) }
     ensures room { room.new ≡ settings_room (channel slot_microseconds slot_bytes) settings.now room.old }
 {
-    let made = converting::list_from_settings(settings, slot_microseconds, slot_bytes, room);
-    report(made, out)
+    report(
+        converting::list_from_settings(settings, slot_microseconds, slot_bytes, room),
+        out,
+    )
 }
 
 // Rounding a list's intervals to a base: tests 1 to 5, 27, 28, 4 on the new list, and 9.
@@ -164,6 +134,5 @@ pub fn snowploughy_round_list(list: &[u8], base: u64, room: &mut [u8], out: &mut
     ensures value { out.new ≡ value (round_answer base list.now (length room.old)) }
     ensures room { room.new ≡ round_room base list.now room.old }
 {
-    let made = rounding::round_list(list, base, room);
-    report(made, out)
+    report(rounding::round_list(list, base, room), out)
 }

@@ -13,9 +13,8 @@ pub use c::{
 };
 pub use checking::check;
 pub use converting::list_from_settings;
-pub use offsets::Added;
 pub use planner::plan;
 pub use printing::sheet_from_list;
 pub use reading::list_from_sheet;
 pub use rounding::round_list;
-pub use windows::{Edges, edges_of, window, window_tests};
+pub use windows::{edges_of, window, window_tests};

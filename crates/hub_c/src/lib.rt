@@ -11,7 +11,7 @@ ghost use Rattle.offsets.specs.Adding.{add_answer, room_of_list as new_list_room
 ghost use Rattle.settings.specs.Slots.{channel};
 ghost use Rattle.settings.specs.Tests.{settings_answer, settings_room};
 ghost use Rattle.bases.specs.Tests.{round_answer, round_room};
-ghost use Rattle.hub.specs.Codes.{code, value, check_code, check_value, window_code, window_first, window_bytes, add_code, add_value};
+ghost use Rattle.hub.specs.Codes.{code, value, check_value, window_first, window_bytes};
 
 // Sheet to list: tests 20, 3, 4 and 9.
 #[unsafe(no_mangle)]
@@ -46,7 +46,7 @@ pub extern "C" fn snowploughy_plan(list: &[u8], room: &mut [u8], out: &mut u64) 
 // The check of a table against its list: tests 1 to 7 and 11 to 18. It writes nothing but the place.
 #[unsafe(no_mangle)]
 pub extern "C" fn snowploughy_check(list: &[u8], table: &[u8], out: &mut u64) -> u32
-    ensures number { result ≡ check_code (check list.now table.now) }
+    ensures number { result ≡ code (check list.now table.now) }
     ensures value { out.new ≡ check_value (check list.now table.now) }
 {
     hub::snowploughy_check(list, table, out)
@@ -61,7 +61,7 @@ pub extern "C" fn snowploughy_window(
     first: &mut u64,
     bytes: &mut u64,
 ) -> u32
-    ensures number { result ≡ window_code (edges_of table.now a b) }
+    ensures number { result ≡ code (edges_of table.now a b) }
     ensures first { first.new ≡ window_first (edges_of table.now a b) }
     ensures bytes { bytes.new ≡ window_bytes (edges_of table.now a b) }
 {
@@ -82,8 +82,8 @@ pub extern "C" fn snowploughy_live_add(
     table_room: &mut [u8],
     out: &mut u64,
 ) -> u32
-    ensures number { result ≡ add_code (add_answer list.now table.now (new_flow number size interval jitter) (length list_room.old) (length table_room.old)) }
-    ensures value { out.new ≡ add_value (add_answer list.now table.now (new_flow number size interval jitter) (length list_room.old) (length table_room.old)) }
+    ensures number { result ≡ code (add_answer list.now table.now (new_flow number size interval jitter) (length list_room.old) (length table_room.old)) }
+    ensures value { out.new ≡ value (add_answer list.now table.now (new_flow number size interval jitter) (length list_room.old) (length table_room.old)) }
     ensures list_room { list_room.new ≡ new_list_room list.now table.now (new_flow number size interval jitter) list_room.old (length table_room.old) }
     ensures table_room { table_room.new ≡ new_table_room list.now table.now (new_flow number size interval jitter) (length list_room.old) table_room.old }
 {

@@ -8,8 +8,7 @@ use Rattle.flows.specs.declared.flow.Flow.{Flow}
 use Rattle.fields.specs.Records.{packed, values_of}
 use Rattle.flows.specs.Flows.{keeps, flow_of, packed_flow}
 use Rattle.refusals.specs.declared.Refusal.TheVariants.{NotRising, UnknownFlow, GrantCount, Timing, Overlap, PastCycle}
-use Rattle.refusals.specs.declared.Checked.{Checked}
-use Rattle.refusals.specs.declared.Checked.TheVariants.{Passed, Refused}
+use Rattle.refusals.specs.Results.{Checked, Passed, Refused}
 use Rattle.refusals.specs.Tests.{lowest, against, after}
 use Rattle.lists.specs.Lists.{head as head_of_list, head_of as list_head_of, count as list_count, flow_at, flows_from, flows_of, records as list_records, list_of}
 use Rattle.lists.specs.Facts.{occupies, related, cycle, least, frame, grants_of, grants}

@@ -12,7 +12,7 @@ use Rattle.logic.specs.Lists.{All}
 use Rattle.logic.proofs.Members.{Mem, all_mem, mem_all, all_imp}
 use Rattle.logic.proofs.Progressions.{progression}
 use Rattle.flows.specs.declared.flow.Flow.{Flow}
-use Rattle.refusals.specs.declared.Checked.TheVariants.{Passed}
+use Rattle.refusals.specs.Results.{Passed}
 use Rattle.lists.specs.Facts.{occupies, cycle, grants_of}
 use Rattle.lists.specs.Accepted.{Accepted}
 use Rattle.lists.proofs.Cycle.{occupies_pos, interval_pos, divides-cycle, granted}

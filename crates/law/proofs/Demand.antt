@@ -8,7 +8,7 @@ use lib.Dec.{eqb}
 use borrow.Author.Tests.{eqb-true, eq-eqb}
 use Rattle.logic.proofs.Tests.{and_both}
 use Rattle.refusals.specs.declared.Refusal.TheVariants.{OtherCycle}
-use Rattle.refusals.specs.declared.Checked.TheVariants.{Passed}
+use Rattle.refusals.specs.Results.{Passed}
 use Rattle.refusals.specs.Tests.{◌⟫◌}
 use Rattle.refusals.proofs.Chains.{both_passed, unless_passed}
 use Rattle.lists.specs.Lists.{flows_of}

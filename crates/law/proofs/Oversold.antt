@@ -8,7 +8,7 @@ use Rattle.logic.specs.Lists.{sum}
 use Rattle.logic.proofs.Members.{all_imp}
 use Rattle.logic.proofs.Sums.{sum_same}
 use Rattle.flows.specs.declared.flow.Flow.{Flow}
-use Rattle.refusals.specs.declared.Checked.TheVariants.{Passed}
+use Rattle.refusals.specs.Results.{Passed}
 use Rattle.lists.specs.Lists.{flows_of}
 use Rattle.lists.specs.Facts.{occupies, cycle, grants_of, grants, load}
 use Rattle.lists.specs.Accepted.{Distinct}

@@ -9,7 +9,7 @@ use Rattle.logic.proofs.Tests.{both_and}
 use Rattle.logic.proofs.Members.{all_mem, mem_all}
 use Rattle.flows.specs.declared.flow.Flow.{Flow}
 use Rattle.refusals.specs.declared.Refusal.TheVariants.{TableForm, OtherCycle}
-use Rattle.refusals.specs.declared.Checked.TheVariants.{Passed}
+use Rattle.refusals.specs.Results.{Passed}
 use Rattle.refusals.proofs.Chains.{passed_both, unless_yes}
 use Rattle.lists.specs.Lists.{flows_of}
 use Rattle.lists.specs.Facts.{occupies, cycle, frame}

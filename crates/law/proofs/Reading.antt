@@ -9,7 +9,7 @@ use borrow.Author.Tests.{ltb-true, lt-ltb, leb-true, le-leb, eqb-true, eq-eqb}
 use Rattle.logic.specs.Lists.{All}
 use Rattle.flows.specs.declared.flow.Flow.{Flow}
 use Rattle.refusals.specs.declared.Refusal.TheVariants.{NotRising, UnknownFlow, GrantCount, Timing, Overlap, PastCycle}
-use Rattle.refusals.specs.declared.Checked.TheVariants.{Passed}
+use Rattle.refusals.specs.Results.{Passed}
 use Rattle.refusals.specs.Tests.{◌⟫◌, against}
 use Rattle.refusals.proofs.Chains.{both_passed}
 use Rattle.refusals.proofs.Lowest.{Pass, lowest_pass, pass_lowest}

@@ -4,7 +4,7 @@ use Rattle.std.proofs.Math.Option.{Option, none, some}
 use Rattle.flows.specs.declared.flow.Flow.{Flow}
 use Rattle.flows.specs.Flows.{no_flow}
 use Rattle.refusals.specs.declared.Refusal.TheVariants.{OtherCycle, UnknownFlow, GrantCount, Timing, Overlap, PastCycle}
-use Rattle.refusals.specs.declared.Checked.{Checked}
+use Rattle.refusals.specs.Results.{Checked}
 use Rattle.refusals.specs.Tests.{◌⟫◌, unless, lowest, against, after}
 use Rattle.lists.specs.Lists.{flows_of}
 use Rattle.lists.specs.Facts.{occupies, cycle, frame, grants_of}

@@ -1,6 +1,6 @@
 -- Demand 2: what it is that the check decides, of a list and a table in bytes. Assumes nothing.
 use Rattle.std.specs.Prelude.{◌≡◌, List, ℕ}
-use Rattle.refusals.specs.declared.Checked.TheVariants.{Passed}
+use Rattle.refusals.specs.Results.{Passed}
 use Rattle.lists.specs.Lists.{flows_of}
 use Rattle.lists.specs.Facts.{cycle, frame}
 use Rattle.lists.specs.Tests.{tests1to7}

@@ -9,7 +9,7 @@ use Rattle.logic.proofs.Tests.{true-not-false}
 use Rattle.logic.proofs.Members.{all_imp}
 use Rattle.flows.specs.declared.flow.Flow.{Flow}
 use Rattle.refusals.specs.declared.Refusal.TheVariants.{UsedNumber, Unrelated}
-use Rattle.refusals.specs.declared.Checked.TheVariants.{Passed}
+use Rattle.refusals.specs.Results.{Passed}
 use Rattle.refusals.specs.Tests.{◌⟫◌}
 use Rattle.refusals.proofs.Chains.{both_passed}
 use Rattle.refusals.proofs.Entries.{Pairs, pairs_passed}

@@ -16,7 +16,7 @@ use Rattle.fields.proofs.Records.{length-packed, values-packed, values_fit, pack
 use Rattle.fields.proofs.Packed.{four-values}
 use Rattle.flows.proofs.Flows.{keeps_is, length-packed_flow, flow-packed, packed_flow_lem}
 use Rattle.fields.proofs.Runs.{run, entries, Again, length_run, entries-run, run-entries}
-use Rattle.refusals.specs.declared.Checked.TheVariants.{Passed}
+use Rattle.refusals.specs.Results.{Passed}
 use Rattle.refusals.proofs.Chains.{both_passed, passed_both}
 use Rattle.lists.specs.Lists.{head_fields, head, head_of, count, place, flow_at, flows_from, flows_of, records, list_of}
 use Rattle.lists.specs.Tests.{test1, test2, test3, test1exact, test4, tests1to4}

@@ -1,8 +1,8 @@
 -- Document 01's "Packed forms": what the bytes of a list mean. Assumes nothing.
-use Rattle.std.specs.Prelude.{ℕ, zero, suc, ◌+◌, ◌-◌, ◌*◌, List, [], ◌∷◌, ◌++◌, length, get_or, take, drop}
+use Rattle.std.specs.Prelude.{ℕ, zero, suc, ◌+◌, ◌-◌, ◌*◌, List, [], ◌∷◌, ◌++◌, length, get_or, take, drop, Result}
 use Rattle.fields.specs.declared.kind.Kind.TheVariants.{ListHead, ListRecord}
 use Rattle.flows.specs.declared.flow.Flow.{Flow}
-use Rattle.fields.specs.declared.record.Stored.{Stored}
+use Rattle.fields.specs.declared.record.Misfit.{Misfit}
 use Rattle.fields.specs.Records.{packed, values_of, stored, room_after}
 use Rattle.flows.specs.Flows.{fields_of, flow_of, packed_flow}
 
@@ -49,7 +49,7 @@ unfoldable pub list_of : List Flow → List ℕ
 list_of fs = head (length fs) ++ records fs
 
 -- what writing a flow as record i comes to in a room of n bytes
-unfoldable pub record_stored : Flow → ℕ → ℕ → Stored
+unfoldable pub record_stored : Flow → ℕ → ℕ → Result Unit Misfit
 record_stored f i n = stored ListRecord (fields_of f) (n - place i)
 
 -- the room afterwards

@@ -5,7 +5,7 @@ use Rattle.flows.specs.declared.flow.Flow.{Flow}
 use Rattle.logic.specs.Numbers.{among}
 use Rattle.flows.specs.Flows.{keeps}
 use Rattle.refusals.specs.declared.Refusal.TheVariants.{Length, Head, Count, Field, UsedNumber, Unrelated, Limits}
-use Rattle.refusals.specs.declared.Checked.{Checked}
+use Rattle.refusals.specs.Results.{Checked}
 use Rattle.refusals.specs.Tests.{◌⟫◌, unless, lowest, against}
 use Rattle.lists.specs.Lists.{head_of, count, place, flows_of}
 use Rattle.lists.specs.Facts.{related, cycle, frame, grants}

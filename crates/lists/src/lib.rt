@@ -10,4 +10,4 @@ mod packed;
 
 pub use facts::Facts;
 pub use limits::few;
-pub use packed::{count, flow_at, write_head, write_record};
+pub use packed::{count, flow_at, head_of, write_head, write_record};

@@ -6,8 +6,5 @@ ghost use Rattle.logic.specs.Numbers.{among};
 pub fn few(n: usize) -> bool
     ensures { result ≡ among 1 128 n }
 {
-    if n < 1 {
-        return false;
-    }
-    n <= 128
+    (1..=128).contains(&n)
 }

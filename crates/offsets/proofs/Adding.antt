@@ -1,17 +1,10 @@
 -- Live add: the new pair passes the check, the offset is the smallest, and 22 is answered where there is none. Assumes nothing.
-use mathlib.Core.Path.{◌≡◌, refl, sym, ◌∙◌}
-use mathlib.Core.Bool.{true, false}
-use mathlib.Core.Logic.{◌↔◌}
-use mathlib.Core.List.{List}
-use mathlib.Core.Option.{Option, none, some}
-use Prim.Native.Nat.{ℕ, ◌<◌}
-use native.Mathlib.Omega.{arith}
+use Rattle.std.proofs.Common.{◌≡◌, refl, sym, ◌∙◌, true, false, ◌↔◌, List, Option, None, Some, Ok, Err, ℕ, ◌<◌, arith}
 use Rattle.logic.specs.Lists.{All}
 use Rattle.logic.proofs.Tests.{by_test, true-not-false}
 use Rattle.flows.specs.declared.flow.Flow.{Flow}
 use Rattle.refusals.specs.declared.Refusal.TheVariants.{NoOffset}
-use Rattle.refusals.specs.declared.Checked.{Checked}
-use Rattle.refusals.specs.declared.Checked.TheVariants.{Passed, Refused}
+use Rattle.refusals.specs.Results.{Checked, Passed, Refused, Written}
 use Rattle.refusals.proofs.Chains.{refused-not, both_passed}
 use Rattle.refusals.proofs.Below.{second_refuses}
 use Rattle.lists.specs.Lists.{flows_of}
@@ -19,7 +12,6 @@ use Rattle.tables.specs.declared.packed.Grant.{Grant}
 use Rattle.tables.specs.Tables.{grants_of as grants_in}
 use Rattle.law.specs.Check.{to, check}
 use Rattle.law.specs.Lawful.{Lawful}
-use Rattle.offsets.specs.declared.Added.TheVariants.{Offset, Refused as Stopped}
 use Rattle.offsets.specs.Offsets.{fits, offset, others}
 use Rattle.offsets.specs.Adding.{new_tests, test9, test22, add_tests, offset_found, new_list, new_table, add_answer}
 use Rattle.offsets.proofs.Smallest.{smallest_exactly, none_exactly}
@@ -29,13 +21,13 @@ use Rattle.offsets.proofs.Standing.{fits_exactly, standing-fits}
 -- ---- where all tests pass
 
 -- test 22 passes where an offset is found
-found : (fs : List Flow) (gs : List Grant) (f : Flow) → test22 fs gs f ≡ Passed → offset fs gs f ≡ some (offset_found fs gs f)
+found : (fs : List Flow) (gs : List Grant) (f : Flow) → test22 fs gs f ≡ Passed → offset fs gs f ≡ Some (offset_found fs gs f)
 unfolding test22 offset_found
 found fs gs f e = go (offset fs gs f) e
   where
-    go : (x : Option ℕ) → elim x [ none ↦ Refused NoOffset | some o ↦ Passed ] ≡ Passed → x ≡ some (elim x [ none ↦ 0 | some o ↦ o ])
-    go none q = refused-not NoOffset q
-    go (some o) q = refl
+    go : (x : Option ℕ) → elim x [ None ↦ Refused NoOffset | Some o ↦ Passed ] ≡ Passed → x ≡ Some (elim x [ None ↦ 0 | Some o ↦ o ])
+    go None q = refused-not NoOffset q
+    go (Some o) q = refl
 
 -- where live add's tests pass, each of them does
 pub each_passed : (l t : List ℕ) (f : Flow) (n m : ℕ) → add_tests l t f n m ≡ Passed
@@ -67,17 +59,17 @@ tested l t f n m e =
     record { passes = p.0; new = p.1; below = y.0; fit = y.1; smaller = y.2 }
 
 -- an offset is answered where all tests pass, and is the one that is found
-pub answered : (l t : List ℕ) (f : Flow) (n m o : ℕ) → add_answer l t f n m ≡ Offset o → (add_tests l t f n m ≡ Passed) × (offset_found (flows_of l) (grants_in t) f ≡ o)
+pub answered : (l t : List ℕ) (f : Flow) (n m o : ℕ) → add_answer l t f n m ≡ Ok o → (add_tests l t f n m ≡ Passed) × (offset_found (flows_of l) (grants_in t) f ≡ o)
 unfolding add_answer
 answered l t f n m o e = go (add_tests l t f n m) e
   where
-    go : (c : Checked) → elim c [ Passed ↦ Offset (offset_found (flows_of l) (grants_in t) f) | Refused r ↦ Stopped r ] ≡ Offset o
+    go : (c : Checked) → ◌≡◌ {A = Written} (elim c [ Ok _ ↦ Ok (offset_found (flows_of l) (grants_in t) f) | Err r ↦ Err r ]) (Ok o)
         → (c ≡ Passed) × (offset_found (flows_of l) (grants_in t) f ≡ o)
-    go Passed q = (refl, cc)
-    go (Refused r) q = let z : ◌≡◌ {A = ℕ} 0 1 = cc in absurd (omega arith)
+    go (Ok tt) q = (refl, cc)
+    go (Err r) q = let z : ◌≡◌ {A = ℕ} 0 1 = cc in absurd (omega arith)
 
 -- the offset answered is below the interval, its table lawful, and no smaller offset's table is
-pub offset-smallest : (l t : List ℕ) (f : Flow) (n m o : ℕ) → add_answer l t f n m ≡ Offset o
+pub offset-smallest : (l t : List ℕ) (f : Flow) (n m o : ℕ) → add_answer l t f n m ≡ Ok o
     → (o < f.interval) × Lawful (new_list l f) (new_table l t f o) × ((j : ℕ) → j < o → Lawful (new_list l f) (new_table l t f j) → ⊥)
 offset-smallest l t f n m o e =
     let a = answered l t f n m o e in
@@ -104,9 +96,9 @@ none-lawful l t f passes new =
           rw (none-fits.1 (λ o h. by_test (fits fs gs f o) (λ e. absurd (n o h ((fits_exactly l t f passes new o h).0 e))) (λ e. e)), test22),
     )
   where
-    go : (x : Option ℕ) → elim x [ none ↦ Refused NoOffset | some o ↦ Passed ] ≡ Refused NoOffset → x ≡ none
-    go none q = refl
-    go (some o) q = refused-not NoOffset (sym q)
+    go : (x : Option ℕ) → elim x [ None ↦ Refused NoOffset | Some o ↦ Passed ] ≡ Refused NoOffset → x ≡ None
+    go None q = refl
+    go (Some o) q = refused-not NoOffset (sym q)
 
 -- 22 is answered exactly where all other tests pass and no offset's table is lawful
 pub refused_22 : (l t : List ℕ) (f : Flow) (n m : ℕ) → (add_tests l t f n m ≡ Refused NoOffset)

@@ -1,8 +1,5 @@
 -- Live add to case C's list and table, computed as lists, each under one claim. Assumes nothing.
-use mathlib.Core.Path.{◌≡◌, refl}
-use mathlib.Core.List.{List, [], ◌∷◌}
-use mathlib.Core.Option.{Option, none, some}
-use Prim.Native.Nat.{ℕ}
+use Rattle.std.proofs.Common.{◌≡◌, refl, List, [], ◌∷◌, Option, None, Some, Ok, Err, ℕ}
 use Rattle.logic.specs.Lists.{All, every, sum}
 use Rattle.fields.specs.Records.{packed, values_of}
 use Rattle.flows.specs.declared.flow.Flow.{Flow}
@@ -16,8 +13,7 @@ use Rattle.tables.specs.declared.packed.Grant.{Grant}
 use Rattle.tables.specs.Tables.{head, head_of, count, cycle_of, frame_of, values_at, grant_at, spare_at, grants_from as table_grants_from, grants_of as grants_in, records, table_of}
 use Rattle.tables.specs.Form.{headed, spared, formed, test11, rises, test12, form_tests}
 use Rattle.law.specs.Check.{known, look, slots, to, listed, test13, test14, counted, test15, last, steps, timely, test16, clears, test17, ends, test18, tests14to18, law_tests, check}
-use Rattle.offsets.specs.declared.Added.{Added}
-use Rattle.offsets.specs.declared.Added.TheVariants.{Offset, Refused as Stopped}
+use Rattle.refusals.specs.Results.{Written}
 use Rattle.offsets.specs.Offsets.{grants_from, new_grants, apart, free, fits, smallest, offset, insert, joined}
 use Rattle.offsets.specs.Adding.{with_new, test21, new_tests, list_bytes, table_bytes, test9, test22, add_tests, offset_found, add_answer}
 
@@ -39,11 +35,11 @@ table = grant 1 0 0 ∷ grant 2 1 0 ∷ grant 1 5 1 ∷ []
 -- a new flow, and the offset that it gets in case C's table
 abbrev news : List (Flow × Option ℕ)
 news =
-    (flow 3 1 8 0, some 6)
-    ∷ (flow 3 2 8 0, some 6)
-    ∷ (flow 3 3 8 0, none)
+    (flow 3 1 8 0, Some 6)
+    ∷ (flow 3 2 8 0, Some 6)
+    ∷ (flow 3 3 8 0, None)
     -- with two grants: 2 and 6 meet flow 2, 3 and 7 too
-    ∷ (flow 3 1 4 0, none)
+    ∷ (flow 3 1 4 0, None)
     ∷ []
 
 -- each gets what stands beside it
@@ -57,25 +53,25 @@ unfolding grants_of grants_from new_grants insert joined
 worked_table = refl
 
 -- a new flow, the bytes of both rooms, and what live add to case C's list and table answers
-abbrev answers : List (Flow × ℕ × ℕ × Added)
+abbrev answers : List (Flow × ℕ × ℕ × Written)
 answers =
-    (flow 3 2 8 0, 22, 28, Offset 6)
-    ∷ (flow 3 3 8 0, 22, 28, Stopped NoOffset)
+    (flow 3 2 8 0, 22, 28, Ok 6)
+    ∷ (flow 3 3 8 0, 22, 28, Err NoOffset)
     -- a byte too few for the list, and for the table
-    ∷ (flow 3 2 8 0, 21, 28, Stopped Room)
-    ∷ (flow 3 2 8 0, 22, 27, Stopped Room)
+    ∷ (flow 3 2 8 0, 21, 28, Err Room)
+    ∷ (flow 3 2 8 0, 22, 27, Err Room)
     -- the new flow is the list's record 3
-    ∷ (flow 3 9 8 0, 22, 28, Stopped (Field 3))
-    ∷ (flow 1 2 8 0, 22, 28, Stopped (UsedNumber 3))
-    ∷ (flow 3 2 6 0, 22, 28, Stopped (Unrelated 3))
-    ∷ (flow 3 2 2 0, 22, 28, Stopped OutsideSpan)
-    ∷ (flow 3 2 16 0, 22, 28, Stopped OutsideSpan)
+    ∷ (flow 3 9 8 0, 22, 28, Err (Field 3))
+    ∷ (flow 1 2 8 0, 22, 28, Err (UsedNumber 3))
+    ∷ (flow 3 2 6 0, 22, 28, Err (Unrelated 3))
+    ∷ (flow 3 2 2 0, 22, 28, Err OutsideSpan)
+    ∷ (flow 3 2 16 0, 22, 28, Err OutsideSpan)
     -- two faults at once: 4 before 5, 5 before 6, 6 before 21, 21 before 9, 9 before 22
-    ∷ (flow 1 9 8 0, 22, 28, Stopped (Field 3))
-    ∷ (flow 1 2 6 0, 22, 28, Stopped (UsedNumber 3))
-    ∷ (flow 3 2 3 0, 22, 28, Stopped (Unrelated 3))
-    ∷ (flow 3 2 2 0, 21, 28, Stopped OutsideSpan)
-    ∷ (flow 3 3 8 0, 21, 28, Stopped Room)
+    ∷ (flow 1 9 8 0, 22, 28, Err (Field 3))
+    ∷ (flow 1 2 6 0, 22, 28, Err (UsedNumber 3))
+    ∷ (flow 3 2 3 0, 22, 28, Err (Unrelated 3))
+    ∷ (flow 3 2 2 0, 21, 28, Err OutsideSpan)
+    ∷ (flow 3 3 8 0, 21, 28, Err Room)
     ∷ []
 
 -- each is answered by what stands beside it

@@ -1,10 +1,5 @@
 -- The smallest number that passes a test. Assumes nothing.
-use mathlib.Core.Path.{◌≡◌, refl, sym, ap, ◌∙◌}
-use mathlib.Core.Bool.{Bool, true, false}
-use mathlib.Core.Logic.{◌↔◌}
-use mathlib.Core.Option.{none, some}
-use Prim.Native.Nat.{ℕ, zero, suc, ◌+◌, ◌-◌, ◌≤◌, ◌<◌}
-use native.Mathlib.Omega.{arith}
+use Rattle.std.proofs.Common.{◌≡◌, refl, sym, ap, ◌∙◌, Bool, true, false, ◌↔◌, None, Some, ℕ, zero, suc, ◌+◌, ◌-◌, ◌≤◌, ◌<◌, arith}
 use Rattle.logic.proofs.Tests.{by_test, by_order}
 use Rattle.offsets.specs.Offsets.{smallest}
 
@@ -23,13 +18,13 @@ module _ (ok : ℕ → Bool) where
       (smallest_skip (suc o) d n (omega arith) (λ j l. let q : suc o + j ≡ o + suc j = omega arith in ap ok q ∙ fails (suc j) (omega arith)))
 
   -- what is found is in the range and passes, and none before it does
-  found : (o n x : ℕ) → smallest ok o n ≡ some x → (o ≤ x) × (x < o + n) × (ok x ≡ true) × ((j : ℕ) → o ≤ j → j < x → ok j ≡ false)
+  found : (o n x : ℕ) → smallest ok o n ≡ Some x → (o ≤ x) × (x < o + n) × (ok x ≡ true) × ((j : ℕ) → o ≤ j → j < x → ok j ≡ false)
   unfolding smallest
   found o zero x e = let z : ◌≡◌ {A = ℕ} 0 1 = cc in absurd (omega arith)
   found o (suc n) x e =
       by_test (ok o)
       (λ t.
-      let s : some o ≡ some x = rw t at e in
+      let s : Some o ≡ Some x = rw t at e in
       let q : o ≡ x = cc in
       (omega arith, omega arith, ap ok (sym q) ∙ t, λ j a b. absurd (omega arith)))
       (λ t.
@@ -37,11 +32,11 @@ module _ (ok : ℕ → Bool) where
       (omega arith, omega arith, ih.2, λ j a b. by_order o j (λ l. ih.3 j l b) (λ q. ap ok (sym q) ∙ t) (λ l. absurd (omega arith))))
 
   -- where none is found all fail
-  all_fail : (o n : ℕ) → smallest ok o n ≡ none → (j : ℕ) → o ≤ j → j < o + n → ok j ≡ false
+  all_fail : (o n : ℕ) → smallest ok o n ≡ None → (j : ℕ) → o ≤ j → j < o + n → ok j ≡ false
   unfolding smallest
   all_fail o zero e j a b = absurd (omega arith)
   all_fail o (suc n) e j a b =
-      by_test (ok o) (λ t. let s : some o ≡ none = rw t at e in let z : ◌≡◌ {A = ℕ} 0 1 = cc in absurd (omega arith))
+      by_test (ok o) (λ t. let s : Some o ≡ None = rw t at e in let z : ◌≡◌ {A = ℕ} 0 1 = cc in absurd (omega arith))
       (λ t. by_order o j (λ l. all_fail (suc o) n (rw t at e) j l (omega arith)) (λ q. ap ok (sym q) ∙ t) (λ l. absurd (omega arith)))
 
   -- from 0 on, numbers that fail are passed over
@@ -51,7 +46,7 @@ module _ (ok : ℕ → Bool) where
       smallest_skip 0 d n h (λ j l. let q : 0 + j ≡ j = omega arith in ap ok q ∙ fails j l) ∙ ap (λ (x : ℕ). smallest ok x (n - d)) e
 
   -- the smallest of the first n numbers that pass
-  pub smallest_exactly : (n o : ℕ) → (smallest ok 0 n ≡ some o) ↔ ((o < n) × (ok o ≡ true) × ((j : ℕ) → j < o → ok j ≡ false))
+  pub smallest_exactly : (n o : ℕ) → (smallest ok 0 n ≡ Some o) ↔ ((o < n) × (ok o ≡ true) × ((j : ℕ) → j < o → ok j ≡ false))
   unfolding smallest
   smallest_exactly n o = (
     λ e. let y = found 0 n o e in (omega (arith, y.1), y.2, λ j l. y.3 j (omega arith) l),
@@ -59,7 +54,7 @@ module _ (ok : ℕ → Bool) where
   )
 
   -- none of them passes
-  pub none_exactly : (n : ℕ) → (smallest ok 0 n ≡ none) ↔ ((j : ℕ) → j < n → ok j ≡ false)
+  pub none_exactly : (n : ℕ) → (smallest ok 0 n ≡ None) ↔ ((j : ℕ) → j < n → ok j ≡ false)
   unfolding smallest
   none_exactly n = (
     λ e j l. all_fail 0 n e j (omega arith) (omega arith),

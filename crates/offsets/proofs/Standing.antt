@@ -11,7 +11,7 @@ use Rattle.logic.specs.Lists.{All}
 use Rattle.logic.proofs.Tests.{and_both}
 use Rattle.flows.specs.declared.flow.Flow.{Flow}
 use Rattle.refusals.specs.declared.Refusal.TheVariants.{OutsideSpan}
-use Rattle.refusals.specs.declared.Checked.TheVariants.{Passed}
+use Rattle.refusals.specs.Results.{Passed}
 use Rattle.refusals.proofs.Chains.{both_passed, passed_both, unless_passed}
 use Rattle.lists.specs.Lists.{flows_of, list_of}
 use Rattle.lists.specs.Facts.{cycle, frame}

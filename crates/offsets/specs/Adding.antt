@@ -1,11 +1,9 @@
 -- Document 02, L1: live add of one flow to a list and a table that passes: its tests in their order, the new list, the new table,
 -- the answer and both rooms. Assumes nothing.
-use Rattle.std.specs.Prelude.{◌&&◌, List, [], ◌∷◌, ◌++◌, ℕ, ◌+◌, leb, length}
-use Rattle.std.proofs.Math.Option.{none, some}
+use Rattle.std.specs.Prelude.{None, Some, Ok, Err, ◌&&◌, List, [], ◌∷◌, ◌++◌, ℕ, ◌+◌, leb, length}
 use Rattle.flows.specs.declared.flow.Flow.{Flow}
 use Rattle.refusals.specs.declared.Refusal.TheVariants.{Room, OutsideSpan, NoOffset}
-use Rattle.refusals.specs.declared.Checked.{Checked}
-use Rattle.refusals.specs.declared.Checked.TheVariants.{Passed, Refused}
+use Rattle.refusals.specs.Results.{Checked, Passed, Refused, Written}
 use Rattle.refusals.specs.Tests.{◌⟫◌, unless}
 use Rattle.refusals.specs.Answers.{written}
 use Rattle.lists.specs.Lists.{place, flows_of, list_of}
@@ -14,8 +12,6 @@ use Rattle.lists.specs.Tests.{test3, test4, test5, test6, test7}
 use Rattle.tables.specs.declared.packed.Grant.{Grant}
 use Rattle.tables.specs.Tables.{place as table_place, grants_of as grants_in, table_of}
 use Rattle.law.specs.Check.{check}
-use Rattle.offsets.specs.declared.Added.{Added}
-use Rattle.offsets.specs.declared.Added.TheVariants.{Offset, Refused as Stopped}
 use Rattle.offsets.specs.Offsets.{new_grants, offset, joined}
 
 -- "the new list, with the new flow as its last record"
@@ -46,7 +42,7 @@ test9 fs gs f n m = unless (leb (list_bytes fs f) n && leb (table_bytes fs gs f)
 
 -- 22: no offset at which the new flow fits
 unfoldable pub test22 : List Flow → List Grant → Flow → Checked
-test22 fs gs f = elim (offset fs gs f) [ none ↦ Refused NoOffset | some o ↦ Passed ]
+test22 fs gs f = elim (offset fs gs f) [ None ↦ Refused NoOffset | Some o ↦ Passed ]
 
 -- all tests in their order: the old list and table first, for rooms of n and m bytes
 unfoldable pub add_tests : List ℕ → List ℕ → Flow → ℕ → ℕ → Checked
@@ -54,7 +50,7 @@ add_tests l t f n m = check l t ⟫ new_tests (flows_of l) f ⟫ test9 (flows_of
 
 -- the offset that is found; 0 where there is none
 unfoldable pub offset_found : List Flow → List Grant → Flow → ℕ
-offset_found fs gs f = elim (offset fs gs f) [ none ↦ 0 | some o ↦ o ]
+offset_found fs gs f = elim (offset fs gs f) [ None ↦ 0 | Some o ↦ o ]
 
 -- the new list
 unfoldable pub new_list : List ℕ → Flow → List ℕ
@@ -72,9 +68,9 @@ new_table l t f o = table_of (cycle (flows_of l)) (frame (flows_of l)) (new_tabl
 unfoldable pub table_added : List ℕ → List ℕ → Flow → List ℕ
 table_added l t f = new_table l t f (offset_found (flows_of l) (grants_in t) f)
 
--- the answer, for rooms of n and m bytes
-unfoldable pub add_answer : List ℕ → List ℕ → Flow → ℕ → ℕ → Added
-add_answer l t f n m = elim (add_tests l t f n m) [ Passed ↦ Offset (offset_found (flows_of l) (grants_in t) f) | Refused r ↦ Stopped r ]
+-- the answer, for rooms of n and m bytes: the offset that is found
+unfoldable pub add_answer : List ℕ → List ℕ → Flow → ℕ → ℕ → Written
+add_answer l t f n m = elim (add_tests l t f n m) [ Ok _ ↦ Ok (offset_found (flows_of l) (grants_in t) f) | Err r ↦ Err r ]
 
 -- the list's room afterwards, where the table's has m bytes
 unfoldable pub room_of_list : List ℕ → List ℕ → Flow → List ℕ → ℕ → List ℕ

@@ -1,7 +1,6 @@
 -- Document 02, L1: "find the smallest offset from 0 to interval less one at which the flow fits at every one of its grants without
 -- moving anyone, all with late 0". Assumes nothing.
-use Rattle.std.specs.Prelude.{Bool, true, false, cond, ◌&&◌, ◌||◌, List, [], ◌∷◌, ℕ, zero, suc, ◌+◌, leb, ltb, eqb}
-use Rattle.std.proofs.Math.Option.{Option, none, some}
+use Rattle.std.specs.Prelude.{Option, None, Some, Bool, true, false, cond, ◌&&◌, ◌||◌, List, [], ◌∷◌, ℕ, zero, suc, ◌+◌, leb, ltb, eqb}
 use Rattle.logic.specs.Lists.{every}
 use Rattle.flows.specs.declared.flow.Flow.{Flow}
 use Rattle.lists.specs.Facts.{occupies, cycle, grants_of}
@@ -31,8 +30,8 @@ fits fs gs f o = every (free fs gs f) (new_grants (cycle fs) f o)
 
 -- the smallest of n numbers from o on that passes, if one does
 unfoldable pub smallest : (ℕ → Bool) → ℕ → ℕ → Option ℕ
-smallest ok o zero = none
-smallest ok o (suc n) = cond (ok o) (some o) (smallest ok (suc o) n)
+smallest ok o zero = None
+smallest ok o (suc n) = cond (ok o) (Some o) (smallest ok (suc o) n)
 
 -- "the smallest offset from 0 to interval less one at which the flow fits"
 unfoldable pub offset : List Flow → List Grant → Flow → Option ℕ

@@ -8,10 +8,13 @@ use native.Mathlib.Nat.{mod_self, mod-eq_of_lt, add-mod_left, pow-suc}
 use lib.Count.{count_leading_zeros, leading_of_zero, leading_le, leading_top}
 use lib.ListN.{length, get_or, set, replicate, length-set, get_or-replicate, get_or-eq_default}
 use lib.Seq.{get_or-set_same, get_or-set_other}
-use borrow.Author.Tests.{eq-eqb, ne_eqb, eqb-true}
+use lib.Dec.{eqb}
+use borrow.Author.Tests.{eq-eqb, eqb-true}
+use Rattle.std.specs.Option.{option_eq}
+use Rattle.std.specs.List.{list_all}
+use Rattle.std.proofs.Common.{Option, Some, None}
 use Rattle.logic.specs.Lists.{every}
-use Rattle.logic.proofs.Tests.{by_test, by_lt, by_eq, both_and, true-not-false}
-use Rattle.logic.proofs.Members.{all_get_d, get_d_all, every-all, all-every}
+use Rattle.logic.proofs.Tests.{by_lt, by_eq, and_both, both_and, true-not-false}
 use Rattle.flows.specs.declared.flow.Flow.{Flow}
 use Rattle.flows.specs.Flows.{no_flow}
 use Rattle.refusals.proofs.Walks.{before}
@@ -75,41 +78,41 @@ same_zeros a b p q e t =
 
 -- ---- the cells
 
--- a cell is empty, or holds an interval
-pub empty-agrees : (x cell : ℕ) → cell ≡ 0 → agrees_with_cell x cell ≡ true
-empty-agrees x cell e = rw (eq-eqb cell 0 e)
+-- a cell has no interval, or one
+by_cell {ℓ} : {P : Type ℓ} (cell : Option ℕ) → (cell ≡ None → P) → ((y : ℕ) → cell ≡ Some y → P) → P
+by_cell None f g = f refl
+by_cell (Some y) f g = g y refl
 
-pub held_agrees : (x cell : ℕ) → (cell ≡ 0 → ⊥) → agrees_with_cell x cell ≡ related (cell - 1) x
-held_agrees x cell n = rw (ne_eqb cell 0 n)
+-- whether it has x
+pub is_held : (cell : Option ℕ) (x : ℕ) → option_eq eqb cell (Some x) ≡ true → cell ≡ Some x
+is_held None x e = true-not-false (sym e)
+is_held (Some y) x e = ap Some (eqb-true y x e)
 
-module _ (cells : List ℕ) (x : ℕ) where
-  -- every cell agrees
-  pub every_cell : ((j : ℕ) → j < length cells → agrees_with_cell x (get_or cells j 0) ≡ true) → related_to_kept cells x ≡ true
-  every_cell each = all-every (agrees_with_cell x) cells (get_d_all (λ c. agrees_with_cell x c ≡ true) 0 cells each)
+pub not_held : (cell : Option ℕ) (x : ℕ) → option_eq eqb cell (Some x) ≡ false → cell ≡ Some x → ⊥
+not_held cell x e u = true-not-false (sym (rw u (eq-eqb x x refl)) ∙ e)
 
-  -- and any that is not empty holds a related interval
-  each_cell : (j : ℕ) → (get_or cells j 0 ≡ 0 → ⊥) → related_to_kept cells x ≡ true → related (get_or cells j 0 - 1) x ≡ true
-  each_cell j n t = by_lt j (length cells)
-      (λ h. sym (held_agrees x (get_or cells j 0) n) ∙ all_get_d (λ c. agrees_with_cell x c ≡ true) 0 cells (every-all (agrees_with_cell x) cells t) j h)
-      (λ h. absurd (n (get_or-eq_default cells 0 h)))
+-- what passes for every entry passes for any, and one more is put where the old one passed
+module _ {A : Type 0} (ok : A → Bool) (d : A) where
+  any_of_all : (xs : List A) (k : ℕ) → list_all ok xs ≡ true → k < length xs → ok (get_or xs k d) ≡ true
+  any_of_all [] k t h = absurd (omega arith)
+  any_of_all (x ∷ xs) zero t h = (and_both (ok x) (list_all ok xs) t).0
+  any_of_all (x ∷ xs) (suc k) t h = any_of_all xs k (and_both (ok x) (list_all ok xs) t).1 (omega arith)
 
-  -- one that does not agree
-  pub cell_differs : (j : ℕ) → j < length cells → agrees_with_cell x (get_or cells j 0) ≡ false → related_to_kept cells x ≡ false
-  cell_differs j h e = by_test (related_to_kept cells x)
-      (λ t. true-not-false (sym (all_get_d (λ c. agrees_with_cell x c ≡ true) 0 cells (every-all (agrees_with_cell x) cells t) j h) ∙ e))
-      (λ t. t)
+  all_set : (xs : List A) (k : ℕ) (v : A) → k < length xs → ok (get_or xs k d) ≡ true → list_all ok (set xs k v) ≡ ok v && list_all ok xs
+  all_set [] k v h e = absurd (omega arith)
+  all_set (x ∷ xs) zero v h e = ap (λ (b : Bool). ok v && (b && list_all ok xs)) (sym e)
+  all_set (x ∷ xs) (suc k) v h e = ap (λ (b : Bool). ok x && b) (all_set xs k v (omega arith) e) ∙ swapped (ok x) (ok v) (list_all ok xs)
+    where
+      swapped : (a b c : Bool) → a && (b && c) ≡ b && (a && c)
+      swapped true b c = refl
+      swapped false true c = refl
+      swapped false false c = refl
 
--- a cell that was empty is filled
-every_set : (ok : ℕ → Bool) (xs : List ℕ) (k v : ℕ) → k < length xs → ok (get_or xs k 0) ≡ true → every ok (set xs k v) ≡ ok v && every ok xs
-unfolding every
-every_set ok [] k v h e = absurd (omega arith)
-every_set ok (x ∷ xs) zero v h e = ap (λ (b : Bool). ok v && (b && every ok xs)) (sym e)
-every_set ok (x ∷ xs) (suc k) v h e = ap (λ (b : Bool). ok x && b) (every_set ok xs k v (omega arith) e) ∙ swapped (ok x) (ok v) (every ok xs)
-  where
-    swapped : (a b c : Bool) → a && (b && c) ≡ b && (a && c)
-    swapped true b c = refl
-    swapped false true c = refl
-    swapped false false c = refl
+-- x is related to all that are kept, and so to any
+each_cell : (cells : List (Option ℕ)) (x j y : ℕ) → get_or cells j None ≡ Some y → related_to_kept cells x ≡ true → related y x ≡ true
+each_cell cells x j y e t = by_lt j (length cells)
+    (λ h. rw e at (any_of_all (agrees_with_cell x) None cells j t h))
+    (λ h. let none : get_or cells j None ≡ None = get_or-eq_default cells None h in cc)
 
 -- a test that follows from another adds nothing to it
 follows : (a b : Bool) → (b ≡ true → a ≡ true) → b ≡ a && b
@@ -117,72 +120,61 @@ follows true b i = refl
 follows false true i = sym (i refl)
 follows false false i = refl
 
--- no interval is kept where all cells are 0
-pub chain_none : Chain (replicate 17 0)
-chain_none =
-    record {
-      all = refl;
-      small = λ j. omega (arith, none j);
-      own = λ j h. absurd (omega (arith, none j));
-      related = λ j h. absurd (omega (arith, none j));
-    }
+-- no interval is kept where all cells are empty
+pub chain_none : Chain (replicate 17 None)
+chain_none = record { all = refl; small = λ j y e. absurd (none j y e); own = λ j y e. absurd (none j y e); related = λ j y e. absurd (none j y e) }
   where
-    none : (j : ℕ) → ◌≡◌ {A = ℕ} (get_or (replicate 17 0) j 0) 0
-    none j = by_lt j 17 (λ h. get_or-replicate {A = ℕ} 17 j 0 0 h) (λ h. get_or-eq_default (replicate 17 0) 0 h)
+    none : (j y : ℕ) → get_or (replicate 17 None) j None ≡ Some y → ⊥
+    none j y e =
+        let z : get_or (replicate 17 None) j None ≡ None = by_lt j 17 (λ h. get_or-replicate {A = Option ℕ} 17 j None None h) (λ h. get_or-eq_default (replicate 17 None) None h) in
+        cc
 
 -- an interval x and the cell of its leading zeros
-module _ (cells : List ℕ) (x : ℕ) (small : x < 8192) (c : Chain cells) where
+module _ (cells : List (Option ℕ)) (x : ℕ) (small : x < 8192) (c : Chain cells) where
   abbrev own : ℕ
   own = count_leading_zeros 16 x
 
   -- which is there
-  pub own_there : own < length cells
+  own_there : own < length cells
   own_there = omega (arith, leading_le 16 x, c.all)
 
   -- the cell holds it: it is kept
-  module _ (e : get_or cells own 0 ≡ x + 1) where
-    is : get_or cells own 0 - 1 ≡ x
-    is = omega (arith, e)
-
+  module _ (e : get_or cells own None ≡ Some x) where
     pub held_related : related_to_kept cells x ≡ true
-    held_related = rw is at (c.related own (omega (arith, e)))
+    held_related = c.related own x e
 
     pub held_kept : Kept cells x cells
-    held_kept = record { chain = c; more = λ y. follows (related x y) (related_to_kept cells y) (λ t. rw is at (each_cell cells y own (λ z. absurd (omega (arith, e, z))) t)) }
+    held_kept = record { chain = c; more = λ y. follows (related x y) (related_to_kept cells y) (each_cell cells y own x e) }
 
   -- it does not, and x is related to all: the cell is empty, and takes it
-  module _ (n : get_or cells own 0 ≡ x + 1 → ⊥) (t : related_to_kept cells x ≡ true) where
-    empty : get_or cells own 0 ≡ 0
-    empty = by_eq (get_or cells own 0) 0 (λ z. z) (λ z.
-        let same : get_or cells own 0 - 1 ≡ x = same_zeros _ x (omega (arith, c.small own)) (omega arith) (c.own own (omega arith)) (each_cell cells x own z t) in
-        absurd (n (omega (arith, same))))
+  module _ (n : get_or cells own None ≡ Some x → ⊥) (t : related_to_kept cells x ≡ true) where
+    empty : get_or cells own None ≡ None
+    empty = by_cell (get_or cells own None) (λ z. z) (λ y z.
+        let same : y ≡ x = same_zeros y x (c.small own y z) (omega arith) (c.own own y z) (each_cell cells x own y z t) in
+        absurd (n (z ∙ ap Some same)))
 
-    filled : (y : ℕ) → related_to_kept (set cells own (x + 1)) y ≡ related x y && related_to_kept cells y
-    filled y =
-        let back : x + 1 - 1 ≡ x = omega arith in
-        every_set (agrees_with_cell y) cells own (x + 1) own_there (empty-agrees y (get_or cells own 0) empty)
-        ∙ ap (λ (b : Bool). b && related_to_kept cells y) (held_agrees y (x + 1) (λ z. absurd (omega (arith, z))) ∙ ap (λ (z : ℕ). related z y) back)
+    abbrev new : List (Option ℕ)
+    new = set cells own (Some x)
 
-    new : get_or (set cells own (x + 1)) own 0 ≡ x + 1
-    new = get_or-set_same cells own (x + 1) 0 own_there
+    filled : (y : ℕ) → related_to_kept new y ≡ related x y && related_to_kept cells y
+    filled y = all_set (agrees_with_cell y) None cells own (Some x) own_there (rw empty)
 
-    old : (j : ℕ) → (j ≡ own → ⊥) → get_or (set cells own (x + 1)) j 0 ≡ get_or cells j 0
-    old j u = get_or-set_other cells own j (x + 1) 0 u
+    -- what is kept now is x, or was kept before
+    by_new {ℓ} : {P : Type ℓ} (j y : ℕ) → get_or new j None ≡ Some y → (j ≡ own → y ≡ x → P) → (get_or cells j None ≡ Some y → P) → P
+    by_new j y z f g = by_eq j own
+        (λ e. let here : get_or new own None ≡ Some x = get_or-set_same cells own (Some x) None own_there in f e (cc))
+        (λ u. g (sym (get_or-set_other cells own j (Some x) None u) ∙ z))
 
-    new_is : get_or (set cells own (x + 1)) own 0 - 1 ≡ x
-    new_is = omega (arith, new)
-
-    pub filled_kept : Kept cells x (set cells own (x + 1))
+    pub filled_kept : Kept cells x new
     filled_kept =
         record {
           chain = record {
             all = simp length-set c.all;
-            small = λ j. by_eq j own (λ e. rw (e, new) (omega arith)) (λ u. rw (old j u) (c.small j));
-            own = λ j. by_eq j own (λ e h. rw (e, new_is) refl) (λ u. rw (old j u) (c.own j));
-            related = λ j. by_eq j own
-                (λ e h. rw (e, new_is) (filled x ∙ both_and (related x x) _ (related_self x) t))
-                (λ u. rw (old j u) (λ h.
-                filled _ ∙ both_and (related x (get_or cells j 0 - 1)) _ (related_sym x _ ∙ each_cell cells x j (λ z. absurd (omega (arith, z, h))) t) (c.related j h)));
+            small = λ j y z. by_new j y z (λ e s. omega arith) (c.small j y);
+            own = λ j y z. by_new j y z (λ e s. rw (e, s)) (c.own j y);
+            related = λ j y z. by_new j y z
+                (λ e s. rw s (filled x ∙ both_and (related x x) _ (related_self x) t))
+                (λ k. filled y ∙ both_and (related x y) _ (related_sym x y ∙ each_cell cells x j y k t) (c.related j y k));
           };
           more = filled;
         }
@@ -190,16 +182,16 @@ module _ (cells : List ℕ) (x : ℕ) (small : x < 8192) (c : Chain cells) where
 -- ---- the records
 
 -- an interval is related to all that are kept exactly where it is to those of some records
-abbrev pub Holds : List ℕ → List Flow → Type 0
+abbrev pub Holds : List (Option ℕ) → List Flow → Type 0
 Holds cells fs = (y : ℕ) → related_to_kept cells y ≡ every (λ f. related f.interval y) fs
 
--- where all cells are 0, there are no records
-pub holds-none : Holds (replicate 17 0) []
+-- where all cells are empty, there are no records
+pub holds-none : Holds (replicate 17 None) []
 unfolding every
 holds-none y = refl
 
 -- a record more, whose interval is kept
-pub holds_more : (l : List ℕ) (i : ℕ) (f : Flow) (xs ys : List ℕ) → i < count l → f ≡ flow_at l i
+pub holds_more : (l : List ℕ) (i : ℕ) (f : Flow) (xs ys : List (Option ℕ)) → i < count l → f ≡ flow_at l i
     → Holds xs (before (flows_of l) no_flow i) → Kept xs f.interval ys → Holds ys (before (flows_of l) no_flow (i + 1))
 holds_more l i f xs ys h e a k y =
     k.more y ∙ ap (λ (b : Bool). related f.interval y && b) (a y) ∙ sym (every_more (λ g. related g.interval y) l i f h e)

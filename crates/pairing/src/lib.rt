@@ -7,7 +7,6 @@
 mod both;
 mod intervals;
 mod numbers;
-mod pairs;
 
 pub use both::{new_pair_tests, pair_tests};
 pub use numbers::{BITS, number_test};

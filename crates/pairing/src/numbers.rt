@@ -5,14 +5,14 @@ ghost use Rattle.lists.specs.Tests.{test5};
 
 use lists::{count, flow_at};
 use marks::{mark, marked};
-use refusals::{Checked, Refusal};
+use refusals::Refusal;
 
 // Bytes for the bits of all numbers, which are below 1,024.
 pub const BITS: usize = 128;
 
 // Test 5 of a list: the first record whose bit is set already has a number used before. The lent bytes may hold anything before and
 // after.
-pub fn number_test(list: &[u8], bits: &mut [u8; BITS]) -> Checked
+pub fn number_test(list: &[u8], bits: &mut [u8; BITS]) -> Result<(), Refusal>
     ensures { result ≡ test5 (flows_of list.now) }
 {
     *bits = [0u8; BITS];
@@ -20,9 +20,9 @@ pub fn number_test(list: &[u8], bits: &mut [u8; BITS]) -> Checked
     for i in 0..n {
         let x = flow_at(list, i).number;
         if marked(bits, x) {
-            return Checked::Refused(Refusal::UsedNumber(i + 1));
+            return Err(Refusal::UsedNumber(i + 1));
         }
         mark(bits, x);
     }
-    Checked::Passed
+    Ok(())
 }

@@ -1,15 +1,10 @@
 -- All flows of a group have their places, if there is room for them. Assumes nothing.
-use mathlib.Core.Path.{◌≡◌, refl, ap, ◌∙◌}
-use mathlib.Core.List.{List, [], ◌∷◌}
-use Prim.Native.Nat.{ℕ, suc, ◌+◌, ◌*◌, ◌≤◌, ◌<◌}
-use native.Mathlib.Omega.{arith}
-use lib.ListN.{length}
+use Rattle.std.proofs.Common.{Some, ◌≡◌, refl, ap, ◌∙◌, List, [], ◌∷◌, ℕ, suc, ◌+◌, ◌*◌, ◌≤◌, ◌<◌, arith, length}
 use Rattle.logic.specs.Lists.{All, sum}
 use Rattle.logic.proofs.Tests.{by_eq}
 use Rattle.flows.specs.declared.flow.Flow.{Flow}
 use Rattle.lists.specs.Facts.{occupies}
 use Rattle.law.proofs.Counting.{mark, mark_same, mark-other}
-use Rattle.placing.specs.declared.Found.TheVariants.{At}
 use Rattle.placing.specs.Rule.{done, Frame, weight, content, first_lawful, contents, olds, put, group}
 use Rattle.placing.proofs.Overhangs.{passing}
 use Rattle.placing.proofs.Placed.{newly, put_leaves}
@@ -42,7 +37,7 @@ filled φ d e i p (f ∷ fs) xs a g z r =
     let m : mark f.interval i * occupies f ≡ occupies f = rw (mark_same f.interval i q) (omega arith) in
     let s = step φ d e 0 0 f xs (a.0 q).0 (a.0 q).1 g z (omega arith) in
     let n : 0 + s.0 ≡ s.0 = omega arith in
-    let w : first_lawful φ (occupies f) 0 0 (contents xs) (olds xs) ≡ At s.0 = rw n at s.1.found in
+    let w : first_lawful φ (occupies f) 0 0 (contents xs) (olds xs) ≡ Some s.0 = rw n at s.1.found in
     let t = put_leaves (λ f. Unit) φ f s.0 xs w in
     let l : length (put f s.0 xs) ≡ length xs = olds-length xs (put f s.0 xs) t.same in
     filled-after φ d e i p (suc p) (f ∷ fs) fs xs (put f s.0 xs) (group_at φ i p s.0 xs f fs q w)

@@ -1,16 +1,8 @@
 -- The frame found is the first lawful one, in document 01's words: the whole window is lawful with the flow put there. Assumes nothing.
-use mathlib.Core.Path.{◌≡◌, refl, sym, ap, ◌∙◌, subst}
-use mathlib.Core.Bool.{true, false}
-use mathlib.Core.Logic.{◌⊎◌, inl, inr, ⊎_elim, ◌↔◌}
-use mathlib.Core.List.{List, [], ◌∷◌}
-use Prim.Native.Nat.{ℕ, zero, suc, ◌+◌, ◌<◌}
-use native.Mathlib.Omega.{arith}
-use lib.ListN.{length, get_or, take}
+use Rattle.std.proofs.Common.{Option, Some, None, ◌≡◌, refl, sym, ap, ◌∙◌, subst, true, false, ◌⊎◌, inl, inr, ⊎_elim, ◌↔◌, List, [], ◌∷◌, ℕ, zero, suc, ◌+◌, ◌<◌, arith, length, get_or, take}
 use Rattle.logic.proofs.Tests.{by_test, by_order, true-not-false}
 use Rattle.flows.specs.declared.flow.Flow.{Flow}
 use Rattle.lists.specs.Facts.{occupies}
-use Rattle.placing.specs.declared.Found.{Found}
-use Rattle.placing.specs.declared.Found.TheVariants.{At, Nowhere}
 use Rattle.placing.specs.Rule.{done, Settled, Frame, content, past, lawful, takes, first_lawful, contents, olds, put, group, rep, opened}
 use Rattle.placing.proofs.Overhangs.{passing, Each, Spare, spare_within, lawful_each, each_lawful}
 use Rattle.placing.proofs.Placed.{takes-here, here-takes}
@@ -20,12 +12,6 @@ use Rattle.placing.proofs.Layouts.{rep-passing, rep_each}
 -- a frame that a window has not
 abbrev none : Frame
 none = record { old = []; new = [] }
-
-at_same : {j k : ℕ} → At j ≡ At k → j ≡ k
-at_same e = cc
-
-at_nowhere : {k : ℕ} → At k ≡ Nowhere → ⊥
-at_nowhere e = let z : ◌≡◌ {A = ℕ} 0 1 = cc in omega arith
 
 -- frame k has at least one free slot, and the whole window is lawful with the flow put there; the first frame has the overhang o
 pub record Lawful (φ : ℕ) (f : Flow) (o : ℕ) (xs : List Frame) (k : ℕ) : Type 0 where
@@ -61,14 +47,14 @@ module _ (φ : ℕ) (f : Flow) where
     unfolding passing put
     earlier k l = record { frame = omega (arith, l.frame); free = l.free; whole = sym (behind (put f k xs)) ∙ l.whole }
 
-  abbrev found : ℕ → ℕ → List Frame → Found
+  abbrev found : ℕ → ℕ → List Frame → Option ℕ
   found n o xs = first_lawful φ (occupies f) n o (contents xs) (olds xs)
 
   -- what the search comes to: the first lawful frame, or no frame is lawful
   abbrev Searched : ℕ → ℕ → List Frame → Type 0
   Searched n o xs =
-      ((k : ℕ) × (found n o xs ≡ At (n + k)) × Lawful φ f o xs k × ((j : ℕ) → j < k → Lawful φ f o xs j → ⊥))
-      ⊎ ((found n o xs ≡ Nowhere) × ((j : ℕ) → Lawful φ f o xs j → ⊥))
+      ((k : ℕ) × (found n o xs ≡ Some (n + k)) × Lawful φ f o xs k × ((j : ℕ) → j < k → Lawful φ f o xs j → ⊥))
+      ⊎ ((found n o xs ≡ None) × ((j : ℕ) → Lawful φ f o xs j → ⊥))
 
   module _ (n o : ℕ) (x : Frame) (xs : List Frame) (s : Spare 0 o x.old) (t : takes φ (occupies f) o (contents (x ∷ xs)) (olds (x ∷ xs)) ≡ false) where
     next : found n o (x ∷ xs) ≡ found (suc n) (past φ o (content x)) xs
@@ -82,7 +68,7 @@ module _ (φ : ℕ) (f : Flow) where
     passed : Searched (suc n) (past φ o (content x)) xs → Searched n o (x ∷ xs)
     passed (inl y) =
         let m : suc n + y.0 ≡ n + suc y.0 = omega arith in
-        inl (suc y.0, next ∙ y.1 ∙ ap At m, later o x xs s y.0 y.2, not-before y.0 y.3)
+        inl (suc y.0, next ∙ y.1 ∙ ap Some m, later o x xs s y.0 y.2, not-before y.0 y.3)
     passed (inr y) = inr (next ∙ y.0, λ j. not-before j (λ i l. y.1 i) j (omega arith))
 
   search : (n o : ℕ) (xs : List Frame) → Each (Spare 0) φ o xs → Searched n o xs
@@ -92,33 +78,33 @@ module _ (φ : ℕ) (f : Flow) where
       by_test (takes φ (occupies f) o (contents (x ∷ xs)) (olds (x ∷ xs)))
       (λ t.
       let m : n ≡ n + 0 = omega arith in
-      inl (0, rw (t, first_lawful) (ap At m), takes-lawful o x xs t, λ j l. absurd (omega arith)))
+      inl (0, rw (t, first_lawful) (ap Some m), takes-lawful o x xs t, λ j l. absurd (omega arith)))
       (λ t. passed n o x xs s.0 t (search (suc n) (past φ o (content x)) xs s.1))
 
   -- in a window that is lawful before, the flow stays in the first lawful frame, and is refused where there is none
   module _ (xs : List Frame) (before : lawful φ 0 (contents xs) (olds xs) ≡ true) where
-    searched : ((k : ℕ) × (found 0 0 xs ≡ At k) × First φ f xs k) ⊎ ((found 0 0 xs ≡ Nowhere) × ((j : ℕ) → Lawful φ f 0 xs j → ⊥))
+    searched : ((k : ℕ) × (found 0 0 xs ≡ Some k) × First φ f xs k) ⊎ ((found 0 0 xs ≡ None) × ((j : ℕ) → Lawful φ f 0 xs j → ⊥))
     searched =
-        ⊎_elim (λ y. let m : 0 + y.0 ≡ y.0 = omega arith in inl (y.0, y.1 ∙ ap At m, (y.2, y.3))) inr (search 0 0 xs (lawful_each φ 0 xs before).1)
+        ⊎_elim (λ y. let m : 0 + y.0 ≡ y.0 = omega arith in inl (y.0, y.1 ∙ ap Some m, (y.2, y.3))) inr (search 0 0 xs (lawful_each φ 0 xs before).1)
 
-    pub found_first : (k : ℕ) → (found 0 0 xs ≡ At k) ↔ First φ f xs k
+    pub found_first : (k : ℕ) → (found 0 0 xs ≡ Some k) ↔ First φ f xs k
     found_first k =
         ⊎_elim
         (λ y. (
-          λ e. let q : y.0 ≡ k = at_same (sym y.1 ∙ e) in subst (First φ f xs) q y.2,
+          λ e. let q : y.0 ≡ k = cc in subst (First φ f xs) q y.2,
           λ l.
               by_order y.0 k
               (λ h. absurd (l.1 y.0 h y.2.0))
-              (λ q. y.1 ∙ ap At q)
+              (λ q. y.1 ∙ ap Some q)
               (λ h. absurd (y.2.1 k h l.0)),
         ))
-        (λ y. (λ e. absurd (at_nowhere (sym e ∙ y.0)), λ l. absurd (y.1 k l.0)))
+        (λ y. (λ e. cc, λ l. absurd (y.1 k l.0)))
         searched
 
-    pub nowhere_none : (found 0 0 xs ≡ Nowhere) ↔ ((k : ℕ) → Lawful φ f 0 xs k → ⊥)
+    pub nowhere_none : (found 0 0 xs ≡ None) ↔ ((k : ℕ) → Lawful φ f 0 xs k → ⊥)
     nowhere_none =
         ⊎_elim
-        (λ y. (λ e. absurd (at_nowhere (sym y.1 ∙ e)), λ n. absurd (n y.0 y.2.0)))
+        (λ y. (λ e. cc, λ n. absurd (n y.0 y.2.0)))
         (λ y. (λ e. y.1, λ n. y.0))
         searched
 

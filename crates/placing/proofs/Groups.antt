@@ -1,17 +1,11 @@
 -- The flows of one interval, placed one after the other. Assumes nothing.
-use mathlib.Core.Path.{◌≡◌, refl, sym, ap, ◌∙◌, subst}
-use mathlib.Core.List.{List, [], ◌∷◌}
-use Prim.Native.Nat.{ℕ, suc, ◌+◌, ◌*◌, ◌≤◌, ◌<◌}
-use native.Mathlib.Omega.{arith}
-use lib.ListN.{length}
+use Rattle.std.proofs.Common.{Option, Some, None, ◌≡◌, refl, sym, ap, ◌∙◌, subst, List, [], ◌∷◌, ℕ, suc, ◌+◌, ◌*◌, ◌≤◌, ◌<◌, arith, length}
 use borrow.Author.Tests.{eq-eqb, ne_eqb}
 use Rattle.logic.specs.Lists.{All, sum}
 use Rattle.logic.proofs.Tests.{by_eq}
 use Rattle.flows.specs.declared.flow.Flow.{Flow}
 use Rattle.lists.specs.Facts.{occupies}
 use Rattle.law.proofs.Counting.{mark, mark_same, mark-other}
-use Rattle.placing.specs.declared.Found.{Found}
-use Rattle.placing.specs.declared.Found.TheVariants.{At, Nowhere}
 use Rattle.placing.specs.Rule.{Outcome, done, refused, Frame, first_lawful, contents, olds, put, group}
 use Rattle.placing.proofs.Overhangs.{passing, Each, Spare, Based}
 use Rattle.placing.proofs.Placed.{newly, Newly, put_leaves}
@@ -19,12 +13,12 @@ use Rattle.placing.proofs.Placed.{newly, Newly, put_leaves}
 -- ---- the three ways of a step
 
 pub group_at : (φ i p k : ℕ) (xs : List Frame) (f : Flow) (fs : List Flow) → f.interval ≡ i
-    → first_lawful φ (occupies f) 0 0 (contents xs) (olds xs) ≡ At k → group φ i p xs (f ∷ fs) ≡ group φ i (suc p) (put f k xs) fs
+    → first_lawful φ (occupies f) 0 0 (contents xs) (olds xs) ≡ Some k → group φ i p xs (f ∷ fs) ≡ group φ i (suc p) (put f k xs) fs
 unfolding group
 group_at φ i p k xs f fs e w = rw (eq-eqb f.interval i e, group) (rw w)
 
 pub group_nowhere : (φ i p : ℕ) (xs : List Frame) (f : Flow) (fs : List Flow) → f.interval ≡ i
-    → first_lawful φ (occupies f) 0 0 (contents xs) (olds xs) ≡ Nowhere → group φ i p xs (f ∷ fs) ≡ refused p
+    → first_lawful φ (occupies f) 0 0 (contents xs) (olds xs) ≡ None → group φ i p xs (f ∷ fs) ≡ refused p
 unfolding group
 group_nowhere φ i p xs f fs e w = rw (eq-eqb f.interval i e, group) (rw w)
 
@@ -33,15 +27,15 @@ pub group-other : (φ i p : ℕ) (xs : List Frame) (f : Flow) (fs : List Flow) �
 unfolding group
 group-other φ i p xs f fs e = rw (ne_eqb f.interval i e, group)
 
-pub by_found {ℓ} : {P : Type ℓ} (w : Found) → ((k : ℕ) → w ≡ At k → P) → (w ≡ Nowhere → P) → P
-by_found (At k) f g = f k refl
-by_found Nowhere f g = g refl
+pub by_found {ℓ} : {P : Type ℓ} (w : Option ℕ) → ((k : ℕ) → w ≡ Some k → P) → (w ≡ None → P) → P
+by_found (Some k) f g = f k refl
+by_found None f g = g refl
 
 -- induction over a group of which every flow has its place
 module _ (φ i : ℕ) (R : List Flow → List Frame → List Frame → Type 0)
     (end : (xs : List Frame) → R [] xs xs)
     (own : (k : ℕ) (f : Flow) (fs : List Flow) (xs ys : List Frame) → f.interval ≡ i
-    → first_lawful φ (occupies f) 0 0 (contents xs) (olds xs) ≡ At k → R fs (put f k xs) ys → R (f ∷ fs) xs ys)
+    → first_lawful φ (occupies f) 0 0 (contents xs) (olds xs) ≡ Some k → R fs (put f k xs) ys → R (f ∷ fs) xs ys)
     (other : (f : Flow) (fs : List Flow) (xs ys : List Frame) → (f.interval ≡ i → ⊥) → R fs xs ys → R (f ∷ fs) xs ys) where
   pub group_ind : (p : ℕ) (fs : List Flow) (xs ys : List Frame) → group φ i p xs fs ≡ done ys → R fs xs ys
   unfolding group

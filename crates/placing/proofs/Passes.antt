@@ -10,7 +10,7 @@ use Rattle.logic.specs.Lists.{All}
 use Rattle.logic.proofs.Members.{Mem, mem_all, all_imp, all_both}
 use Rattle.logic.proofs.Progressions.{progression, progression-length}
 use Rattle.flows.specs.declared.flow.Flow.{Flow}
-use Rattle.refusals.specs.declared.Checked.TheVariants.{Passed}
+use Rattle.refusals.specs.Results.{Passed}
 use Rattle.lists.specs.Facts.{cycle, frame, grants_of, grants}
 use Rattle.lists.specs.Accepted.{Accepted}
 use Rattle.lists.proofs.Cycle.{kept, cycle_le, interval_pos}

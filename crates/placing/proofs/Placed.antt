@@ -1,10 +1,5 @@
 -- A flow put into its first lawful frame. Assumes nothing.
-use mathlib.Core.Path.{◌≡◌, refl, ap, subst}
-use mathlib.Core.Bool.{true, false}
-use mathlib.Core.List.{List, [], ◌∷◌, ◌++◌}
-use Prim.Native.Nat.{ℕ, suc, ◌+◌, ◌≤◌, ◌<◌}
-use native.Mathlib.Omega.{arith}
-use lib.Dec.{ltb}
+use Rattle.std.proofs.Common.{Some, ◌≡◌, refl, ap, subst, true, false, List, [], ◌∷◌, ◌++◌, ℕ, suc, ◌+◌, ◌≤◌, ◌<◌, arith, ltb}
 use borrow.Author.Tests.{ltb-true, lt-ltb}
 use Rattle.logic.specs.Lists.{All, sum}
 use Rattle.logic.proofs.Tests.{by_test, true-not-false}
@@ -12,7 +7,6 @@ use Rattle.logic.proofs.Members.{all_imp}
 use Rattle.logic.proofs.Appends.{all_append, sum-append}
 use Rattle.flows.specs.declared.flow.Flow.{Flow}
 use Rattle.lists.specs.Facts.{occupies}
-use Rattle.placing.specs.declared.Found.TheVariants.{At}
 use Rattle.placing.specs.Rule.{Settled, Frame, content, past, lawful, takes, first_lawful, contents, olds, put}
 use Rattle.placing.proofs.Overhangs.{passing, Each, Spare, Based, each_along, lawful_each}
 
@@ -43,7 +37,7 @@ module _ (φ : ℕ) (f : Flow) (R : ℕ → List Frame → List Frame → Type 0
     (here : (o : ℕ) (x : Frame) (xs : List Frame) → o + content x < φ
     → lawful φ o (contents (with_flow f x ∷ xs)) (olds (with_flow f x ∷ xs)) ≡ true → R o (x ∷ xs) (with_flow f x ∷ xs))
     (beyond : (o : ℕ) (x : Frame) (xs ys : List Frame) → R (past φ o (content x)) xs ys → R o (x ∷ xs) (x ∷ ys)) where
-  search_ind : (k n o : ℕ) (xs : List Frame) → first_lawful φ (occupies f) k o (contents xs) (olds xs) ≡ At n
+  search_ind : (k n o : ℕ) (xs : List Frame) → first_lawful φ (occupies f) k o (contents xs) (olds xs) ≡ Some n
       → (j : ℕ) × (n ≡ k + j) × R o xs (put f j xs)
   unfolding first_lawful contents olds put
   search_ind k n o [] e = let z : ◌≡◌ {A = ℕ} 0 1 = cc in absurd (omega arith)
@@ -58,7 +52,7 @@ module _ (φ : ℕ) (f : Flow) (R : ℕ → List Frame → List Frame → Type 0
       let y = search_ind (suc k) n (past φ o (content x)) xs (rw (t, first_lawful) at e) in
       (suc y.0, omega (arith, y.1), beyond o x xs (put f y.0 xs) y.2))
 
-  pub put_ind : (k : ℕ) (xs : List Frame) → first_lawful φ (occupies f) 0 0 (contents xs) (olds xs) ≡ At k → R 0 xs (put f k xs)
+  pub put_ind : (k : ℕ) (xs : List Frame) → first_lawful φ (occupies f) 0 0 (contents xs) (olds xs) ≡ Some k → R 0 xs (put f k xs)
   put_ind k xs e =
       let y = search_ind 0 k 0 xs e in
       let q : y.0 ≡ k = omega (arith, y.1) in
@@ -86,7 +80,7 @@ based_up P φ =
     each_along (λ o p. o ≤ p) (Based P) (Based P) φ (λ o p c h. omega arith)
     (λ o p h l a. all_imp (λ (g : Settled). (g.base ≤ o) × P g.flow) (λ (g : Settled). (g.base ≤ p) × P g.flow) h (λ g b. (omega arith, b.1)) a)
 
-pub put_leaves : (P : Flow → Type 0) (φ : ℕ) (f : Flow) (k : ℕ) (xs : List Frame) → first_lawful φ (occupies f) 0 0 (contents xs) (olds xs) ≡ At k → Put P φ f 0 xs (put f k xs)
+pub put_leaves : (P : Flow → Type 0) (φ : ℕ) (f : Flow) (k : ℕ) (xs : List Frame) → first_lawful φ (occupies f) 0 0 (contents xs) (olds xs) ≡ Some k → Put P φ f 0 xs (put f k xs)
 unfolding newly sum olds passing
 put_leaves P φ f =
     put_ind φ f (Put P φ f)

@@ -1,18 +1,11 @@
 -- Where a group is under way and its flows have room, the next flow's first lawful frame is the first with a free slot. Assumes nothing.
-use mathlib.Core.Path.{◌≡◌, ap, ◌∙◌}
-use mathlib.Core.Bool.{true}
-use mathlib.Core.Logic.{◌⊎◌, inl, inr}
-use mathlib.Core.List.{List, [], ◌∷◌}
-use Prim.Native.Nat.{ℕ, suc, ◌+◌, ◌*◌, ◌≤◌, ◌<◌}
-use native.Mathlib.Omega.{arith}
-use lib.ListN.{length}
+use Rattle.std.proofs.Common.{Some, ◌≡◌, ap, ◌∙◌, true, ◌⊎◌, inl, inr, List, [], ◌∷◌, ℕ, suc, ◌+◌, ◌*◌, ◌≤◌, ◌<◌, arith, length}
 use borrow.Author.Tests.{le-ltb}
 use Rattle.logic.specs.Lists.{sum}
 use Rattle.logic.proofs.Tests.{by_lt}
 use Rattle.logic.proofs.Members.{all_imp}
 use Rattle.flows.specs.declared.flow.Flow.{Flow}
 use Rattle.lists.specs.Facts.{occupies}
-use Rattle.placing.specs.declared.Found.TheVariants.{At}
 use Rattle.placing.specs.Rule.{Settled, Frame, content, past, lawful, takes, first_lawful, contents, olds, put}
 use Rattle.placing.proofs.Overhangs.{passing, Each, Spare, each_along, each_lawful}
 use Rattle.placing.proofs.Placed.{with_flow, content_with, here-takes}
@@ -70,13 +63,13 @@ unfolding first_lawful takes contents olds
 search_full φ s k o x xs l = rw (le-ltb (o + content x) φ l, takes, first_lawful)
 
 search_here : (φ k o : ℕ) (f : Flow) (x : Frame) (xs : List Frame) → o + content x < φ → lawful φ o (contents (with_flow f x ∷ xs)) (olds (with_flow f x ∷ xs)) ≡ true
-    → first_lawful φ (occupies f) k o (contents (x ∷ xs)) (olds (x ∷ xs)) ≡ At k
+    → first_lawful φ (occupies f) k o (contents (x ∷ xs)) (olds (x ∷ xs)) ≡ Some k
 unfolding first_lawful contents olds
 search_here φ k o f x xs l w = rw (here-takes φ f o x xs l w, first_lawful)
 
 -- the flow f goes into frame j, and the group is under way as before
 pub record Step (φ d e o k : ℕ) (f : Flow) (xs : List Frame) (j : ℕ) : Type 0 where
-  pub found : first_lawful φ (occupies f) k o (contents xs) (olds xs) ≡ At (k + j)
+  pub found : first_lawful φ (occupies f) k o (contents xs) (olds xs) ≡ Some (k + j)
   pub going : Going φ d e o (put f j xs)
   pub clear : passing φ o (put f j xs) ≡ 0
 
@@ -94,7 +87,7 @@ step φ d e o k f (x ∷ xs) f1 fd g z r = go g.1 (λ l i. step φ d e (past φ 
         let n : suc k + s.0 ≡ k + suc s.0 = omega arith in (
           suc s.0,
           record {
-            found = search_full φ (occupies f) k o x xs y.0 ∙ s.1.found ∙ ap At n;
+            found = search_full φ (occupies f) k o x xs y.0 ∙ s.1.found ∙ ap Some n;
             going = (g.0, inl (y.0, s.1.going));
             clear = s.1.clear;
           },
@@ -102,7 +95,7 @@ step φ d e o k f (x ∷ xs) f1 fd g z r = go g.1 (λ l i. step φ d e (past φ 
     go (inr y) ih = (
       0,
       record {
-        found = search_here φ k o f x xs y.0 (each_lawful e φ o (with_flow f x ∷ xs) ended (going_spare φ d e o (with_flow f x ∷ xs) under_way)) ∙ ap At (n k);
+        found = search_here φ k o f x xs y.0 (each_lawful e φ o (with_flow f x ∷ xs) ended (going_spare φ d e o (with_flow f x ∷ xs) under_way)) ∙ ap Some (n k);
         going = under_way;
         clear = ended;
       },

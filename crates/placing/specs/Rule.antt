@@ -1,11 +1,9 @@
 -- Document 01's "How the planner places", sentence by sentence. Assumes nothing.
-use Rattle.std.specs.Prelude.{Bool, true, false, List, [], ◌∷◌, ◌++◌, map, ℕ, zero, suc, ◌+◌, ◌-◌, ◌/◌, leb, ltb, eqb}
+use Rattle.std.specs.Prelude.{Bool, true, false, List, [], ◌∷◌, ◌++◌, map, ℕ, zero, suc, ◌+◌, ◌-◌, ◌/◌, leb, ltb, eqb, Option, Some, None}
 use Rattle.logic.specs.Lists.{sum}
 use Rattle.flows.specs.declared.flow.Flow.{Flow}
 use Rattle.lists.specs.Facts.{occupies, cycle, frame}
 use Rattle.tables.specs.declared.packed.Grant.{Grant}
-use Rattle.placing.specs.declared.Found.{Found}
-use Rattle.placing.specs.declared.Found.TheVariants.{At, Nowhere}
 
 -- what a step of placing comes to: a value, or the list place of the flow that has no lawful frame
 pub data Outcome (A : Type 0) : Type 0 where
@@ -57,11 +55,11 @@ takes φ s o [] hs = false
 takes φ s o (c ∷ cs) hs = elim (ltb (o + c) φ) [ true ↦ lawful φ o ((c + s) ∷ cs) hs | false ↦ false ]
 
 -- "the first lawful frame": the first, counted from k, that takes s slots
-unfoldable pub first_lawful : ℕ → ℕ → ℕ → ℕ → List ℕ → List (List Settled) → Found
-first_lawful φ s k o [] hs = Nowhere
-first_lawful φ s k o (c ∷ cs) [] = Nowhere
+unfoldable pub first_lawful : ℕ → ℕ → ℕ → ℕ → List ℕ → List (List Settled) → Option ℕ
+first_lawful φ s k o [] hs = None
+first_lawful φ s k o (c ∷ cs) [] = None
 first_lawful φ s k o (c ∷ cs) (h ∷ hs) =
-    elim (takes φ s o (c ∷ cs) (h ∷ hs)) [ true ↦ At k | false ↦ first_lawful φ s (suc k) (past φ o c) cs hs ]
+    elim (takes φ s o (c ∷ cs) (h ∷ hs)) [ true ↦ Some k | false ↦ first_lawful φ s (suc k) (past φ o c) cs hs ]
 
 -- the contents of frames
 unfoldable pub contents : List Frame → List ℕ
@@ -96,7 +94,7 @@ unfoldable pub group : ℕ → ℕ → ℕ → List Frame → List Flow → Outc
 group φ i p xs [] = done xs
 group φ i p xs (f ∷ fs) =
     elim (eqb f.interval i) [
-      | true ↦ elim (first_lawful φ (occupies f) 0 0 (contents xs) (olds xs)) [ At k ↦ group φ i (suc p) (put f k xs) fs | Nowhere ↦ refused p ]
+      | true ↦ elim (first_lawful φ (occupies f) 0 0 (contents xs) (olds xs)) [ Some k ↦ group φ i (suc p) (put f k xs) fs | None ↦ refused p ]
       | false ↦ group φ i (suc p) xs fs
     ]
 

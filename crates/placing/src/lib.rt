@@ -1,9 +1,2 @@
-// The placing rule over the frames of a window.
+// The placing rule over the frames of a window, and the theorems about it. It has no code: `planner` places by it.
 #![tactic(auto)]
-
-// The frame that takes a flow.
-#[derive(Clone, Copy)]
-pub enum Found {
-    At(usize),
-    Nowhere,
-}

@@ -7,24 +7,24 @@ use Rattle.std.specs.Io.KnownBytes.{Appends, Consumes, IsAtEnd}
 use Rattle.logic.proofs.Tests.{by_test}
 use Rattle.refusals.specs.declared.Refusal.{Refusal}
 use Rattle.refusals.specs.declared.Refusal.TheVariants.{Room}
-use Rattle.refusals.specs.declared.Checked.TheVariants.{Passed}
-use Rattle.refusals.specs.declared.Written.TheVariants.{Bytes, Refused}
+use Rattle.std.proofs.Common.{Ok, Err}
+use Rattle.refusals.specs.Results.{Passed}
 use Rattle.refusals.specs.Answers.{answer, written}
 use Rattle.refusals.proofs.Rooms.{written_front}
 use Rattle.plan.specs.Printed.{sheet_text, shown, input_text}
 
 -- a text that does not fit the room
-pub shown_none : (t : List ℕ) (r : Refusal) → Refused r ≡ answer Passed t 32768 → shown t ≡ []
+pub shown_none : (t : List ℕ) (r : Refusal) → Err r ≡ answer Passed t 32768 → shown t ≡ []
 unfolding answer
-shown_none t r e = by_test (ltb 32768 (length t)) (λ h. rw h refl) (λ h. let i : Refused r ≡ Bytes (length t) = rw h at e in let z : ◌≡◌ {A = ℕ} 0 1 = cc in absurd (omega arith))
+shown_none t r e = by_test (ltb 32768 (length t)) (λ h. rw h refl) (λ h. let i : Err r ≡ Ok (length t) = rw h at e in let z : ◌≡◌ {A = ℕ} 0 1 = cc in absurd (omega arith))
 
 -- a text that does; out is the room afterwards
-pub shown_all : (t room out : List ℕ) (k : ℕ) → length room ≡ 32768 → out ≡ written Passed t room → Bytes k ≡ answer Passed t 32768 → take k out ≡ shown t
+pub shown_all : (t room out : List ℕ) (k : ℕ) → length room ≡ 32768 → out ≡ written Passed t room → Ok k ≡ answer Passed t 32768 → take k out ≡ shown t
 unfolding answer
 shown_all t room out k h o e =
     let front = written_front Passed t room k (ap (answer Passed t) h ∙ sym e) in
     ap (take k) o ∙ front.1
-    ∙ by_test (ltb 32768 (length t)) (λ i. let j : Bytes k ≡ Refused Room = rw i at e in let z : ◌≡◌ {A = ℕ} 0 1 = cc in absurd (omega arith)) (λ i. rw i refl)
+    ∙ by_test (ltb 32768 (length t)) (λ i. let j : Ok k ≡ Err Room = rw i at e in let z : ◌≡◌ {A = ℕ} 0 1 = cc in absurd (omega arith)) (λ i. rw i refl)
 
 -- a reader gave n bytes on the way from a to b, and then a writer took some on the way from p to q
 pub long_input : (a b p q : Option (List ℕ)) (n : ℕ) (xs : List ℕ) → Consumes a b (take n xs) → 65536 < n → n ≤ length xs → Appends p q (codes "sheet too long\n")

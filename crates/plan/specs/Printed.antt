@@ -1,7 +1,6 @@
 -- Document 01: the program "prints the plan"; "A refusal prints one line". What it prints of a list and of a sheet. Assumes nothing.
-use Rattle.std.specs.Prelude.{ℕ, cond, List, [], ltb, length, codes}
-use Rattle.refusals.specs.declared.Written.{Written}
-use Rattle.refusals.specs.declared.Written.TheVariants.{Bytes, Refused}
+use Rattle.std.specs.Prelude.{ℕ, cond, List, [], ltb, length, codes, Ok, Err}
+use Rattle.refusals.specs.Results.{Written}
 use Rattle.lists.specs.Lists.{list_of}
 use Rattle.planner.specs.Plan.{plan_table, plan_answer}
 use Rattle.sheets.specs.Readings.{flows_in}
@@ -10,8 +9,8 @@ use Rattle.texts.specs.Texts.{plan_text, refusal_text}
 
 -- the text where bytes were written, or that of the refusal
 abbrev pub printed : Written → List ℕ → List ℕ
-printed (Bytes k) text = text
-printed (Refused r) text = refusal_text r
+printed (Ok k) text = text
+printed (Err r) text = refusal_text r
 
 -- what is printed of a list, whose table has a room for 1,024 grants
 unfoldable pub list_text : List ℕ → List ℕ

@@ -13,11 +13,10 @@ pub fn read_full<R: Read>(from: &mut R, room: &mut [u8]) -> io::Result<usize>
 {
     let mut n = 0;
     while n < room.len() {
-        let k = from.read(&mut room[n..])?;
-        if k == 0 {
-            break;
+        match from.read(&mut room[n..])? {
+            0 => break,
+            k => n += k,
         }
-        n += k;
     }
     Ok(n)
 }

@@ -3,39 +3,37 @@
 
 mod input;
 
-ghost use Rattle.std.specs.Prelude.{◌≡◌, length, OnOk, IfSome};
+ghost use Rattle.std.specs.Prelude.{◌≡◌, length, OnOk, IfSome, Ok};
 ghost use Rattle.std.specs.Io.KnownBytes.{Appends};
-ghost use Rattle.refusals.specs.declared.Checked.TheVariants.{Passed};
+ghost use Rattle.refusals.specs.Results.{Passed};
 ghost use Rattle.refusals.specs.Answers.{answer, written};
 ghost use Rattle.plan.specs.Printed.{list_text, sheet_text, input_text};
 
-use refusals::Written;
+use refusals::Refusal;
 use std::io;
 use std::io::{Read, Write};
 
 // Plans a list: the text of the plan or of its refusal at the room's front, or the refusal of a room that is too short.
-fn list_text(list: &[u8], room: &mut [u8]) -> Written
+fn list_text(list: &[u8], room: &mut [u8]) -> Result<usize, Refusal>
     ensures value { result ≡ answer Passed (list_text list.now) (length room.old) }
     ensures room_after { room.new ≡ written Passed (list_text list.now) room.old }
 {
     let mut table = [0u8; 5128];
-    let made = planner::plan(list, &mut table);
-    match made {
-        Written::Refused(r) => texts::refusal_text(r, room),
-        Written::Bytes(k) => texts::plan_text(list, &table[..k], room),
+    match planner::plan(list, &mut table) {
+        Ok(k) => texts::plan_text(list, &table[..k], room),
+        Err(r) => texts::refusal_text(r, room),
     }
 }
 
 // Plans a sheet: the text of the plan or of its refusal at the room's front, or the refusal of a room that is too short.
-fn sheet_text(sheet: &[u8], room: &mut [u8]) -> Written
+fn sheet_text(sheet: &[u8], room: &mut [u8]) -> Result<usize, Refusal>
     ensures value { result ≡ answer Passed (sheet_text sheet.now) (length room.old) }
     ensures room_after { room.new ≡ written Passed (sheet_text sheet.now) room.old }
 {
     let mut list = [0u8; 772];
-    let made = reading::list_from_sheet(sheet, &mut list);
-    match made {
-        Written::Refused(r) => texts::refusal_text(r, room),
-        Written::Bytes(k) => list_text(&list[..k], room),
+    match reading::list_from_sheet(sheet, &mut list) {
+        Ok(k) => list_text(&list[..k], room),
+        Err(r) => texts::refusal_text(r, room),
     }
 }
 
@@ -49,10 +47,9 @@ fn print_plan<R: Read, W: Write>(from: &mut R, to: &mut W) -> io::Result<()>
         return to.write_all(b"sheet too long\n");
     }
     let mut room = [0u8; 32768];
-    let made = sheet_text(&sheet[..n], &mut room);
-    match made {
-        Written::Refused(_) => Ok(()),
-        Written::Bytes(k) => to.write_all(&room[..k]),
+    match sheet_text(&sheet[..n], &mut room) {
+        Ok(k) => to.write_all(&room[..k]),
+        Err(_) => Ok(()),
     }
 }
 

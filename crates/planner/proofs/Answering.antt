@@ -1,31 +1,27 @@
 -- What the placed layout says of test 10 and of the table. Assumes nothing.
-use mathlib.Core.Path.{◌≡◌, refl, sym, ap, ap₂, ◌∙◌}
-use mathlib.Core.List.{List}
-use Prim.Native.Nat.{ℕ, ◌/◌, ◌≤◌}
+use Rattle.std.proofs.Common.{rules, Result, Ok, Err, MatchResult, IsErrAnd, ◌≡◌, refl, sym, ap, ap₂, ◌∙◌, List, ℕ, ◌/◌, ◌≤◌, arith, length, take}
 use native.Mathlib.Nat.{div-eq_of_eq-mul_left}
-use native.Mathlib.Omega.{arith}
-use lib.ListN.{length, take}
 use Rattle.logic.specs.Lists.{All}
 use Rattle.logic.proofs.Members.{all_imp}
 use Rattle.fields.specs.declared.kind.Kind.TheVariants.{TableHead}
 use Rattle.flows.specs.declared.flow.Flow.{Flow}
 use Rattle.fields.specs.Records.{room_after}
-use Rattle.refusals.specs.declared.Refusal.TheVariants.{NoFrame as NoFrameAt}
-use Rattle.refusals.specs.declared.Checked.TheVariants.{Passed, Refused}
-use Rattle.refusals.specs.declared.Written.TheVariants.{Bytes, Refused as Stopped}
+use Rattle.refusals.specs.declared.Refusal.TheVariants.{NoFrame}
+use Rattle.refusals.specs.declared.Refusal.{Refusal}
+use Rattle.refusals.specs.Results.{Passed, Refused}
 use Rattle.refusals.specs.Answers.{answer, written as written_room}
 use Rattle.refusals.proofs.Rooms.{ends-refused, ends-written}
 use Rattle.lists.specs.Lists.{flows_of}
 use Rattle.lists.specs.declared.facts.Facts.{Facts}
 use Rattle.lists.specs.Facts.{cycle, frame, grants, load, facts_of}
 use Rattle.lists.specs.Accepted.{Accepted}
+use Rattle.lists.specs.Tests.{tests1to7}
+use Rattle.lists.proofs.Accepted.{accepted}
 use Rattle.lists.proofs.Cycle.{frame_pos, cycle-fits}
 use Rattle.tables.specs.declared.packed.Grant.{Grant}
 use Rattle.tables.specs.Tables.{head_fields, place, table_of}
 use Rattle.placing.specs.Rule.{Outcome, done, refused, Settled, layout, rows, planned}
 use Rattle.placing.proofs.Passes.{planned_done, planned-length, planned-fits}
-use Rattle.planner.specs.declared.placed.Placed.{Placed}
-use Rattle.planner.specs.declared.placed.Placed.TheVariants.{Lawful, NoFrame}
 use Rattle.planner.specs.Finished.{Finished}
 use Rattle.tables.specs.Tables.{records_after}
 use Rattle.planner.specs.Rows.{Tabled}
@@ -40,9 +36,13 @@ pub facts_are : (f : Facts) (fs : List Flow) → f ≡ facts_of fs → (f.cycle 
 unfolding facts_of
 facts_are f fs e = (ap (λ (x : Facts). x.cycle) e, ap (λ (x : Facts). x.frame) e, ap (λ (x : Facts). x.grants) e, ap (λ (x : Facts). x.load) e)
 
+-- a list that tests 1 to 7 accept has no more grants than a table
+pub few_grants : (l : List ℕ) → tests1to7 l ≡ Passed → grants (flows_of l) ≤ 1024
+few_grants l e = (accepted l e).grants_le
+
 -- ---- test 10, both ways
 
-test10-refused : (fs : List Flow) (p : ℕ) → layout fs ≡ refused p → test10 fs ≡ Refused (NoFrameAt p)
+test10-refused : (fs : List Flow) (p : ℕ) → layout fs ≡ refused p → test10 fs ≡ Refused (NoFrame p)
 unfolding test10 planned
 test10-refused fs p e = let w : planned fs ≡ refused p = rw (e, planned) in rw (w, test10)
 
@@ -59,6 +59,12 @@ table_is : (l : List ℕ) (gs : List Grant) → planned (flows_of l) ≡ done gs
 unfolding plan_table
 table_is l gs d = ap (table_of (cycle (flows_of l)) (frame (flows_of l))) (planned_is (flows_of l) gs d)
 
+-- what is answered where a flow has no lawful frame
+pub none_lawful : (q : Result Unit ℕ) (m : Result Unit Refusal) (r : Refusal) → MatchResult q (λ x. m ≡ Ok x) (λ p. IsErrAnd m (λ e. e ≡ NoFrame p))
+    → m ≡ Err r → (p : ℕ) × (q ≡ Err p) × (r ≡ NoFrame p)
+none_lawful (Ok x) m r h e = absurd (search rules)
+none_lawful (Err p) m r h e = (p, refl, search rules)
+
 -- ---- what the code leaves
 
 module _ (l room : List ℕ) (ok : Accepted (flows_of l)) (φ : ℕ) (e : φ ≡ frame (flows_of l)) (cs ls ks bs : List ℕ) where
@@ -66,12 +72,12 @@ module _ (l room : List ℕ) (ok : Accepted (flows_of l)) (φ : ℕ) (e : φ ≡
   fs = flows_of l
 
   -- no lawful frame
-  pub answer-refused : (q : Placed) (p : ℕ) → Finished φ fs (layout fs) q cs ls ks bs → q ≡ NoFrame p
-      → (Stopped (NoFrameAt p) ≡ answer (test10 fs) (plan_table l) (length room)) × (room ≡ written_room (test10 fs) (plan_table l) room)
-  answer-refused q p F a = ends-refused (test10 fs) (plan_table l) room (NoFrameAt p) (go (layout fs) refl F)
+  pub answer-refused : (q : Result Unit ℕ) (p : ℕ) → Finished φ fs (layout fs) q cs ls ks bs → q ≡ Err p
+      → (Err (NoFrame p) ≡ answer (test10 fs) (plan_table l) (length room)) × (room ≡ written_room (test10 fs) (plan_table l) room)
+  answer-refused q p F a = ends-refused (test10 fs) (plan_table l) room (NoFrame p) (go (layout fs) refl F)
     where
-      go : (o : Outcome (List (List Settled))) → layout fs ≡ o → Finished φ fs o q cs ls ks bs → test10 fs ≡ Refused (NoFrameAt p)
-      go (refused n) w h = let z : NoFrame n ≡ NoFrame p = sym h ∙ a in let y : n ≡ p = cc in test10-refused fs p (rw y at w)
+      go : (o : Outcome (List (List Settled))) → layout fs ≡ o → Finished φ fs o q cs ls ks bs → test10 fs ≡ Refused (NoFrame p)
+      go (refused n) w h = let z : Err n ≡ Err p = sym h ∙ a in let y : n ≡ p = cc in test10-refused fs p (rw y at w)
       go (done hs) w h = no_frame-not-lawful (sym a ∙ h.0)
 
   -- the layout that is to be written, of w frames
@@ -80,7 +86,7 @@ module _ (l room : List ℕ) (ok : Accepted (flows_of l)) (φ : ℕ) (e : φ ≡
     pub laid : planned fs ≡ done (rows φ 0 0 settled)
     pub tabled : Tabled φ fs settled (take w cs) ks bs
 
-  pub answer-standing : (q : Placed) (w : ℕ) → Finished φ fs (layout fs) q cs ls ks bs → q ≡ Lawful → w ≡ cycle fs / φ → Standing w
+  pub answer-standing : (q : Result Unit ℕ) (w : ℕ) → Finished φ fs (layout fs) q cs ls ks bs → q ≡ Ok tt → w ≡ cycle fs / φ → Standing w
   answer-standing q w F a b = go (layout fs) refl F
     where
       go : (o : Outcome (List (List Settled))) → layout fs ≡ o → Finished φ fs o q cs ls ks bs → Standing w
@@ -104,7 +110,7 @@ module _ (l room : List ℕ) (ok : Accepted (flows_of l)) (φ : ℕ) (e : φ ≡
   -- the table stands at the room's front, behind its head
   pub answer-written : (w c n : ℕ) (headed room' : List ℕ) → c ≡ cycle fs → n ≡ grants fs → place (grants fs) ≤ length room → (S : Standing w)
       → headed ≡ room_after TableHead (head_fields n c φ) room → room' ≡ records_after 0 (rows φ 0 0 S.settled) headed
-      → (Bytes (place n) ≡ answer (test10 fs) (plan_table l) (length room)) × (room' ≡ written_room (test10 fs) (plan_table l) room)
+      → (Ok (place n) ≡ answer (test10 fs) (plan_table l) (length room)) × (room' ≡ written_room (test10 fs) (plan_table l) room)
   answer-written w c n headed room' p q h S u r =
       let gs = rows φ 0 0 S.settled in
       let many : n ≡ length gs = q ∙ sym (planned-length fs ok gs S.laid) in

@@ -1,13 +1,6 @@
 -- A group from its window window to its end. Assumes nothing.
-use mathlib.Core.Path.{◌≡◌, refl, sym, ap, ap₂, ◌∙◌}
-use mathlib.Core.List.{List, []}
-use Prim.Native.Nat.{ℕ, ◌*◌, ◌/◌, ◌≤◌, ◌<◌}
-use native.Mathlib.Omega.{arith}
-use lib.ListN.{length, take}
-use lib.Seq.{length-take-le}
+use Rattle.std.proofs.Common.{Result, Ok, Err, ◌≡◌, refl, sym, ap, ap₂, ◌∙◌, List, [], ℕ, ◌*◌, ◌/◌, ◌≤◌, ◌<◌, arith, length, take, length-take-le}
 use Rattle.flows.specs.declared.flow.Flow.{Flow}
-use Rattle.planner.specs.declared.placed.Placed.{Placed}
-use Rattle.planner.specs.declared.placed.Placed.TheVariants.{Lawful, NoFrame}
 use Rattle.placing.specs.Rule.{Outcome, done, refused, Settled, Frame, contents, olds, group, rep, opened}
 use Rattle.planner.specs.Cells.{over}
 use Rattle.planner.specs.Cells.{Laid, laid_of, group_cells, Ended, ended_of, end_cells}
@@ -45,10 +38,10 @@ module _ {φ i w : ℕ} {fs : List Flow} {is : List ℕ} {hs : List (List Settle
       (opened_is φ i O.times fs is hs (take w cs) (take w ls) ks bs O.agrees)
 
   -- a group that is refused
-  closed_refused : (p : ℕ) (ds ms ns es : List ℕ) → placed.placed ≡ NoFrame p → Closed φ i fs is (group φ i 1 window fs) (NoFrame p) ds ms ns es
+  closed_refused : (p : ℕ) (ds ms ns es : List ℕ) → placed.placed ≡ Err p → Closed φ i fs is (group φ i 1 window fs) (Err p) ds ms ns es
   closed_refused p ds ms ns es e = go (group φ i 1 window fs) placed_as
     where
-      go : (r : Outcome (List Frame)) → Placed-as φ i fs window (rep O.times (take w ls)) ks r placed → Closed φ i fs is r (NoFrame p) ds ms ns es
+      go : (r : Outcome (List Frame)) → Placed-as φ i fs window (rep O.times (take w ls)) ks r placed → Closed φ i fs is r (Err p) ds ms ns es
       go (refused q) h = sym e ∙ h
       go (done M) h = no_frame-not-lawful (sym e ∙ h.0)
 
@@ -56,12 +49,12 @@ module _ {φ i w : ℕ} {fs : List Flow} {is : List ℕ} {hs : List (List Settle
   length-filled : (M : List Frame) → olds M ≡ olds window → length M ≡ length cs
   length-filled M o = sym (length-olds M) ∙ ap length o ∙ length-olds window ∙ length-window
 
-  module _ (all : placed.placed ≡ Lawful) where
-    closed_all : Closed φ i fs is (group φ i 1 window fs) Lawful placed.contents ended.limits placed.frames ended.bases
+  module _ (all : placed.placed ≡ Ok tt) where
+    closed_all : Closed φ i fs is (group φ i 1 window fs) (Ok tt) placed.contents ended.limits placed.frames ended.bases
     closed_all = go (group φ i 1 window fs) placed_as
       where
         go : (r : Outcome (List Frame)) → Placed-as φ i fs window (rep O.times (take w ls)) ks r placed
-            → Closed φ i fs is r Lawful placed.contents ended.limits placed.frames ended.bases
+            → Closed φ i fs is r (Ok tt) placed.contents ended.limits placed.frames ended.bases
         go (refused q) h = no_frame-not-lawful (sym h ∙ all)
         go (done M) h =
             let F = h.1 in
@@ -97,14 +90,14 @@ module _ {φ i w : ℕ} {fs : List Flow} {is : List ℕ} {hs : List (List Settle
         fits = narrow O.times w (length cs) O.whole O.positive
 
 -- what the code leaves, step by step: the layout's cells repeated, then the group placed with the answer q
-pub record Leaves (φ i w : ℕ) (fs : List Flow) (cs ls ks bs cs₁ ls₁ cs₂ ks₂ : List ℕ) (q : Placed) : Type 0 where
+pub record Leaves (φ i w : ℕ) (fs : List Flow) (cs ls ks bs cs₁ ls₁ cs₂ ks₂ : List ℕ) (q : Result Unit ℕ) : Type 0 where
   pub many : length fs ≤ length ks
   pub many' : length fs ≤ length bs
   pub copied : (r : ℕ) → length cs ≡ r * w → cs₁ ≡ rep r (take w cs)
   pub copied' : (r : ℕ) → length ls ≡ r * w → ls₁ ≡ rep r (take w ls)
   pub laid : laid_of q cs₂ ks₂ ≡ group_cells φ i 0 cs₁ ls₁ ks fs
 
-module _ {φ i w : ℕ} {fs : List Flow} {cs ls ks bs cs₁ ls₁ cs₂ ks₂ : List ℕ} {q : Placed} (S : Leaves φ i w fs cs ls ks bs cs₁ ls₁ cs₂ ks₂ q) where
+module _ {φ i w : ℕ} {fs : List Flow} {cs ls ks bs cs₁ ls₁ cs₂ ks₂ : List ℕ} {q : Result Unit ℕ} (S : Leaves φ i w fs cs ls ks bs cs₁ ls₁ cs₂ ks₂ q) where
   module _ (is : List ℕ) (hs : List (List Settled)) (O : Opened φ i w fs is hs cs ls ks bs) where
     copy : cs₁ ≡ rep O.times (take w cs)
     copy = S.copied O.times O.whole
@@ -115,20 +108,20 @@ module _ {φ i w : ℕ} {fs : List Flow} {cs ls ks bs cs₁ ls₁ cs₂ ks₂ : 
     laid_is : laid_of q cs₂ ks₂ ≡ placed O S.many S.many'
     laid_is = S.laid ∙ ap₂ (λ (x y : List ℕ). group_cells φ i 0 x y ks fs) copy copy'
 
-    stood : q ≡ Lawful → (placed O S.many S.many').placed ≡ Lawful
+    stood : q ≡ Ok tt → (placed O S.many S.many').placed ≡ Ok tt
     stood e = sym (ap (λ (l : Laid). l.placed) laid_is) ∙ e
 
-    pub left_inside : q ≡ Lawful → Inside i (length cs) 0 fs ks₂
+    pub left_inside : q ≡ Ok tt → Inside i (length cs) 0 fs ks₂
     left_inside e = rw (ap (λ (l : Laid). l.frames) laid_is) (inside O S.many S.many' (stood e))
 
-    pub left_low : q ≡ Lawful → (k : ℕ) → k < length cs₂ → over φ 0 (take k cs₂) < 65536
+    pub left_low : q ≡ Ok tt → (k : ℕ) → k < length cs₂ → over φ 0 (take k cs₂) < 65536
     left_low e = rw (ap (λ (l : Laid). l.contents) laid_is) (low_over O S.many S.many' (stood e))
 
-  pub added-refused : (p : ℕ) (ms ns es : List ℕ) → q ≡ NoFrame p → Added φ i w fs cs ls ks bs (NoFrame p) cs₂ ms ns es
+  pub added-refused : (p : ℕ) (ms ns es : List ℕ) → q ≡ Err p → Added φ i w fs cs ls ks bs (Err p) cs₂ ms ns es
   added-refused p ms ns es e is hs O =
       closed_refused O S.many S.many' p cs₂ ms ns es (sym (ap (λ (l : Laid). l.placed) (laid_is is hs O)) ∙ e)
 
-  pub added-all : (ms es : List ℕ) → q ≡ Lawful → ended_of ms es ≡ end_cells φ i 0 cs₂ ls₁ ks₂ bs fs → Added φ i w fs cs ls ks bs Lawful cs₂ ms ks₂ es
+  pub added-all : (ms es : List ℕ) → q ≡ Ok tt → ended_of ms es ≡ end_cells φ i 0 cs₂ ls₁ ks₂ bs fs → Added φ i w fs cs ls ks bs (Ok tt) cs₂ ms ks₂ es
   added-all ms es e f is hs O =
       let P = placed O S.many S.many' in
       let c : cs₂ ≡ P.contents = ap (λ (l : Laid). l.contents) (laid_is is hs O) in

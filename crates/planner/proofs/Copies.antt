@@ -1,11 +1,7 @@
 -- A layout repeated. Assumes nothing.
-use mathlib.Core.Path.{◌≡◌, sym, ap, ◌∙◌}
-use mathlib.Core.List.{List, ◌++◌, append_assoc, append-nil}
-use Prim.Native.Nat.{ℕ, zero, suc, ◌+◌, ◌-◌, ◌*◌, ◌≤◌, ◌<◌}
-use native.Mathlib.Numerals.{add-one}
-use native.Mathlib.Omega.{arith}
-use lib.ListN.{length, get_or, set, take, drop, length-append, drop_of_length-le, take-append-drop, get_or-append}
-use lib.Seq.{drop-cons, take-suc, append_snoc, get_or-append-add, get_or-take, set_at, take_at, take_all, length-take-le}
+use Rattle.std.proofs.Common.{◌≡◌, sym, ap, ◌∙◌, List, ◌++◌, append_assoc, append-nil, ℕ, zero, suc, ◌+◌, ◌-◌, ◌*◌, ◌≤◌, ◌<◌, add-one, arith, length, get_or, set, take, drop, length-append, drop_of_length-le, take-append-drop, drop-cons, take-suc, get_or-append-add, get_or-take, take_at, take_all, length-take-le}
+use lib.ListN.{get_or-append}
+use lib.Seq.{append_snoc, set_at}
 use Rattle.placing.specs.Rule.{rep}
 
 module _ {A : Type 0} (xs : List A) where
@@ -28,10 +24,10 @@ module _ {A : Type 0} (xs : List A) where
       get_or-append-add xs (rep r xs) j d ∙ sym (rw (rep_snoc r) (get_or-append (rep r xs) xs d j l))
 
 -- the copying loop: its start, a turn, its end
-pub repeat-start : (cells : List ℕ) (w r : ℕ) → 0 < w → w ≤ length cells → length cells ≡ r * w → cells ≡ take w (rep r (take w cells)) ++ drop w cells
+pub repeat_start : (cells : List ℕ) (w r : ℕ) → 0 < w → w ≤ length cells → length cells ≡ r * w → cells ≡ take w (rep r (take w cells)) ++ drop w cells
 unfolding rep
-repeat-start cells w zero z l e = absurd (omega arith)
-repeat-start cells w (suc r) z l e =
+repeat_start cells w zero z l e = absurd (omega arith)
+repeat_start cells w (suc r) z l e =
     let wide : length (take w cells) ≡ w = length-take-le w cells l in
     sym (ap (λ (x : List ℕ). x ++ drop w cells) (take_at (take w cells) (rep r (take w cells)) w wide) ∙ take-append-drop w cells)
 

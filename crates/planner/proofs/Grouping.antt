@@ -1,17 +1,9 @@
 -- Placing a group by numbers is placing it over frames of grants. Assumes nothing.
-use mathlib.Core.Path.{◌≡◌, refl, sym, ap, ◌∙◌}
-use mathlib.Core.Bool.{Bool, true, false}
-use mathlib.Core.List.{List, [], ◌∷◌, ◌++◌, append_assoc, append-nil}
-use Prim.Native.Nat.{ℕ, zero, suc, ◌+◌, ◌-◌, ◌*◌, ◌≤◌, ◌<◌}
-use native.Mathlib.Omega.{arith}
+use Rattle.std.proofs.Common.{Some, None, Ok, Err, Result, ◌≡◌, refl, sym, ap, ◌∙◌, Bool, true, false, List, [], ◌∷◌, ◌++◌, append_assoc, append-nil, ℕ, zero, suc, ◌+◌, ◌-◌, ◌*◌, ◌≤◌, ◌<◌, arith, eqb, length, get_or, set, length-set, length-append, get_or-set_same, get_or-set_other}
 use native.Mathlib.Nat.{sub-zero}
-use lib.Dec.{eqb}
-use lib.ListN.{length, get_or, set, length-set, length-append, length-map}
-use lib.Seq.{get_or-set_same, get_or-set_other}
+use lib.ListN.{length-map}
 use borrow.Author.Tests.{lt-ltb, le-ltb, eq-eqb, ne_eqb}
 use Rattle.flows.specs.declared.flow.Flow.{Flow}
-use Rattle.placing.specs.declared.Found.TheVariants.{At, Nowhere}
-use Rattle.planner.specs.declared.placed.Placed.TheVariants.{Lawful, NoFrame}
 use Rattle.logic.specs.Lists.{sum}
 use Rattle.lists.specs.Facts.{occupies}
 use Rattle.placing.specs.Rule.{Outcome, done, refused, Settled, Frame, weight, content, past, lawful, takes, first_lawful, contents, olds, put, group}
@@ -22,7 +14,7 @@ use Rattle.logic.proofs.Tests.{by_test, by_lt, by_eq, true-not-false}
 use Rattle.planner.proofs.Limits.{total, lawful_tail, lawful-room, first_lawful-first, first_fits}
 
 -- a group that has no lawful frame for a flow is not placed
-pub no_frame-not-lawful : {P : Type 0} {p : ℕ} → NoFrame p ≡ Lawful → P
+pub no_frame-not-lawful : {P : Type 0} {p : ℕ} → ◌≡◌ {A = Result Unit ℕ} (Err p) (Ok tt) → P
 no_frame-not-lawful e = let z : ◌≡◌ {A = ℕ} 0 1 = cc in absurd (omega arith)
 
 -- a frame with nothing in it
@@ -76,7 +68,7 @@ length-put f zero (x ∷ L) = refl
 length-put f (suc k) (x ∷ L) = ap suc (length-put f k L)
 
 -- where the first lawful frame is, the window stays lawful
-first_lawful-lawful : (φ s j o k : ℕ) (cs : List ℕ) (hs : List (List Settled)) → lawful φ o cs hs ≡ true → first_lawful φ s j o cs hs ≡ At k
+first_lawful-lawful : (φ s j o k : ℕ) (cs : List ℕ) (hs : List (List Settled)) → lawful φ o cs hs ≡ true → first_lawful φ s j o cs hs ≡ Some k
     → lawful φ o (set cs (k - j) (get_or cs (k - j) 0 + s)) hs ≡ true
 unfolding first_lawful takes lawful
 first_lawful-lawful φ s j o k [] hs l e = let z : ◌≡◌ {A = ℕ} 0 1 = cc in absurd (omega arith)
@@ -97,7 +89,7 @@ first_lawful-lawful φ s j o k (c ∷ cs) (h ∷ hs) l e =
     let at : k - j ≡ suc (k - suc j) = omega arith in
     rw at (rw (t.0, lawful) (first_lawful-lawful φ s (suc j) (past φ o c) k cs hs t.1 f)))
   where
-    first_lawful-from : (φ s j o k : ℕ) (cs : List ℕ) (hs : List (List Settled)) → first_lawful φ s j o cs hs ≡ At k → j ≤ k
+    first_lawful-from : (φ s j o k : ℕ) (cs : List ℕ) (hs : List (List Settled)) → first_lawful φ s j o cs hs ≡ Some k → j ≤ k
     first_lawful-from φ s j o k [] hs e = let z : ◌≡◌ {A = ℕ} 0 1 = cc in absurd (omega arith)
     first_lawful-from φ s j o k (c ∷ cs) [] e = let z : ◌≡◌ {A = ℕ} 0 1 = cc in absurd (omega arith)
     first_lawful-from φ s j o k (c ∷ cs) (h ∷ hs) e =
@@ -170,7 +162,7 @@ filling_other φ i xs f L cs ls ks e F =
 
 -- the next flow has found frame k
 filling_put : (φ i k : ℕ) (xs : List Flow) (f : Flow) (L : List Frame) (cs ls ks : List ℕ) → f.interval ≡ i → length xs < length ks
-    → first_lawful φ (occupies f) 0 0 (contents L) (olds L) ≡ At k → Filling φ i xs L cs ls ks
+    → first_lawful φ (occupies f) 0 0 (contents L) (olds L) ≡ Some k → Filling φ i xs L cs ls ks
     → Filling φ i (xs ++ (f ∷ [])) (put f k L) (set cs k (get_or cs k 0 + occupies f)) ls (set ks (length xs) k)
 filling_put φ i k xs f L cs ls ks e h a F =
     record {
@@ -191,8 +183,8 @@ pub record Filled (φ i : ℕ) (fs : List Flow) (L M : List Frame) (cs ls ks ns 
 
 -- the numbers' answer is the frames'
 abbrev pub Placed-as : ℕ → ℕ → List Flow → List Frame → List ℕ → List ℕ → Outcome (List Frame) → Laid → Type 0
-Placed-as φ i fs L ls ks (refused p) c = c.placed ≡ NoFrame p
-Placed-as φ i fs L ls ks (done M) c = (c.placed ≡ Lawful) × Filled φ i fs L M c.contents ls ks c.frames
+Placed-as φ i fs L ls ks (refused p) c = c.placed ≡ Err p
+Placed-as φ i fs L ls ks (done M) c = (c.placed ≡ Ok tt) × Filled φ i fs L M c.contents ls ks c.frames
 
 -- what holds after a step holds after the whole
 placed-before : (φ i : ℕ) (fs : List Flow) (L M : List Frame) (ls ks ns : List ℕ) (r : Outcome (List Frame)) (c : Laid)
@@ -209,12 +201,12 @@ module _ (φ i j : ℕ) (cs ls ks : List ℕ) (f : Flow) where
   unfolding step
   step_other e = rw (ne_eqb f.interval i e, step)
 
-  pub step-at : (k : ℕ) → f.interval ≡ i → first φ (occupies f) 0 0 cs ls ≡ At k
+  pub step-at : (k : ℕ) → f.interval ≡ i → first φ (occupies f) 0 0 cs ls ≡ Some k
       → step φ i j cs ls ks f ≡ record { stands = true; contents = set cs k (get_or cs k 0 + occupies f); frames = set ks j k }
   unfolding step
   step-at k e a = rw (eq-eqb f.interval i e, step) (rw (a, step))
 
-  pub step_nowhere : f.interval ≡ i → first φ (occupies f) 0 0 cs ls ≡ Nowhere → step φ i j cs ls ks f ≡ record { stands = false; contents = cs; frames = ks }
+  pub step_nowhere : f.interval ≡ i → first φ (occupies f) 0 0 cs ls ≡ None → step φ i j cs ls ks f ≡ record { stands = false; contents = cs; frames = ks }
   unfolding step
   step_nowhere e a = rw (eq-eqb f.interval i e, step) (rw (a, step))
 
@@ -224,7 +216,7 @@ module _ (φ i j : ℕ) (cs ls ks : List ℕ) (f : Flow) where
   cells_on fs ds ns e = rw (e, group_cells) (rw e)
 
   pub cells_stop : (fs : List Flow) (ds ns : List ℕ) → step φ i j cs ls ks f ≡ record { stands = false; contents = ds; frames = ns }
-      → group_cells φ i j cs ls ks (f ∷ fs) ≡ record { placed = NoFrame (suc j); contents = ds; frames = ns }
+      → group_cells φ i j cs ls ks (f ∷ fs) ≡ record { placed = Err (suc j); contents = ds; frames = ns }
   unfolding group_cells
   cells_stop fs ds ns e = rw (e, group_cells) (rw e)
 
@@ -252,7 +244,7 @@ cells_front φ i j n cs ls ks (f ∷ fs) h =
     (λ a. rw (cells_stop φ i j cs ls ks f fs _ _ (step_nowhere φ i j cs ls ks f e a))))
     (λ e. rw (cells_on φ i j cs ls ks f fs _ _ (step_other φ i j cs ls ks f e)) (cells_front φ i (suc j) n cs ls ks fs (omega arith)))
 
-pub cells_inside : (φ i j : ℕ) (cs ls ks : List ℕ) (fs : List Flow) → j + length fs ≤ length ks → (group_cells φ i j cs ls ks fs).placed ≡ Lawful
+pub cells_inside : (φ i j : ℕ) (cs ls ks : List ℕ) (fs : List Flow) → j + length fs ≤ length ks → (group_cells φ i j cs ls ks fs).placed ≡ Ok tt
     → Inside i (length cs) j fs (group_cells φ i j cs ls ks fs).frames
 unfolding group_cells
 cells_inside φ i j cs ls ks [] h p = tt

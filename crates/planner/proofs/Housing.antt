@@ -1,16 +1,10 @@
 -- Each flow has one of the frames of its window, and keeps it. Assumes nothing.
-use mathlib.Core.Path.{◌≡◌, refl, ap, ◌∙◌}
-use mathlib.Core.List.{List, [], ◌∷◌, ◌++◌}
-use Prim.Native.Nat.{ℕ, zero, suc, ◌/◌, ◌≤◌}
-use native.Mathlib.Omega.{arith}
-use lib.ListN.{get_or, set}
-use lib.Seq.{get_or-set_other}
+use Rattle.std.proofs.Common.{Result, ◌≡◌, refl, ap, ◌∙◌, List, [], ◌∷◌, ◌++◌, ℕ, zero, suc, ◌/◌, ◌≤◌, arith, get_or, set, get_or-set_other}
 use Rattle.logic.specs.Lists.{All}
 use Rattle.logic.proofs.Tests.{by_eq}
 use Rattle.lists.specs.Lists.{count, flow_at, flows_from, flows_of}
 use Rattle.lists.specs.Facts.{occupies}
 use Rattle.placing.proofs.Groups.{by_found}
-use Rattle.planner.specs.declared.placed.Placed.{Placed}
 use Rattle.planner.specs.Cells.{first, Laid, laid_of, group_cells}
 use Rattle.planner.specs.State.{Before}
 use Rattle.planner.proofs.Grouping.{Inside, step_other, step-at, step_nowhere, cells_on, cells_stop}
@@ -34,7 +28,7 @@ cells_apart l φ n i a j (suc c) cs ls ks =
     (λ b. rw (cells_stop φ n j cs ls ks f fs _ _ (step_nowhere φ n j cs ls ks f e b))))
     (λ e. rw (cells_on φ n j cs ls ks f fs _ _ (step_other φ n j cs ls ks f e)) (cells_apart l φ n i a (suc j) c cs ls ks))
 
-pub taken : (l : List ℕ) (φ n w : ℕ) (q : Placed) (cs ls ks ds ns : List ℕ) → laid_of q ds ns ≡ group_cells φ n 0 cs ls ks (flows_of l) → Inside n w 0 (flows_of l) ns
+pub taken : (l : List ℕ) (φ n w : ℕ) (q : Result Unit ℕ) (cs ls ks ds ns : List ℕ) → laid_of q ds ns ≡ group_cells φ n 0 cs ls ks (flows_of l) → Inside n w 0 (flows_of l) ns
     → Taken l n w ks ns
 unfolding flows_of
 taken l φ n w q cs ls ks ds ns e h =

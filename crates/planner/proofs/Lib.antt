@@ -18,5 +18,4 @@ pub mod Chains
 pub mod Linking
 pub mod Tabling
 pub mod Answering
-pub mod Verdicts
 pub mod Passes

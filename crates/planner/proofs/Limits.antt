@@ -1,13 +1,6 @@
 -- The rule by contents and limits is the rule over grants. Assumes nothing.
-use mathlib.Core.Path.{◌≡◌, refl, sym, ◌∙◌}
-use mathlib.Core.Bool.{true, false}
-use mathlib.Core.List.{List, [], ◌∷◌}
-use Prim.Native.Nat.{ℕ, zero, suc, ◌+◌, ◌-◌, ◌*◌, ◌≤◌, ◌<◌, min}
-use native.Mathlib.Omega.{arith}
-use lib.Dec.{leb}
-use lib.ListN.{length, get_or, take}
+use Rattle.std.proofs.Common.{Some, ◌≡◌, refl, sym, ◌∙◌, true, false, List, [], ◌∷◌, ℕ, zero, suc, ◌+◌, ◌-◌, ◌*◌, ◌≤◌, ◌<◌, min, arith, leb, length, get_or, take}
 use borrow.Author.Tests.{le-leb, lt-leb, leb-true, leb-false, lt-ltb, le-ltb, eq-eqb, ne_eqb, eqb-true}
-use Rattle.placing.specs.declared.Found.TheVariants.{At}
 use Rattle.placing.specs.Rule.{Settled, past, within, lawful, takes, first_lawful}
 use Rattle.planner.specs.Cells.{over}
 use Rattle.planner.specs.Cells.{free, limit, limits, runs, opens, first}
@@ -112,7 +105,7 @@ pub record Fits (φ s j k : ℕ) (cs : List ℕ) : Type 0 where
   pub upto : k < j + length cs
   pub room : get_or cs (k - j) 0 + s ≤ length cs * φ
 
-pub first_fits : (φ s j o k : ℕ) (cs ls : List ℕ) → first φ s j o cs ls ≡ At k → Fits φ s j k cs
+pub first_fits : (φ s j o k : ℕ) (cs ls : List ℕ) → first φ s j o cs ls ≡ Some k → Fits φ s j k cs
 unfolding first opens
 first_fits φ s j o k [] ls e = let z : ◌≡◌ {A = ℕ} 0 1 = cc in absurd (omega arith)
 first_fits φ s j o k (c ∷ cs) [] e = let z : ◌≡◌ {A = ℕ} 0 1 = cc in absurd (omega arith)

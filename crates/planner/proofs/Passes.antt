@@ -7,8 +7,8 @@ use lib.ListN.{length}
 use borrow.Author.Tests.{leb-true, le-ltb}
 use Rattle.flows.specs.declared.flow.Flow.{Flow}
 use Rattle.refusals.specs.declared.Refusal.TheVariants.{NoFrame, Room}
-use Rattle.refusals.specs.declared.Checked.TheVariants.{Passed, Refused}
-use Rattle.refusals.specs.declared.Written.TheVariants.{Bytes}
+use Rattle.std.proofs.Common.{Ok}
+use Rattle.refusals.specs.Results.{Passed, Refused}
 use Rattle.refusals.specs.Answers.{answer}
 use Rattle.refusals.proofs.Chains.{refused-not, both_passed, unless_passed}
 use Rattle.lists.specs.Lists.{flows_of}
@@ -45,7 +45,7 @@ plan-passes l n e =
     packed-passes l (grants_planned fs) a.0 pass.0 pass.1
 
 -- a plan's answer is the length of its table
-pub plan-answers : (l : List ℕ) (n : ℕ) → plan_tests l n ≡ Passed → plan_answer l n ≡ Bytes (place (grants (flows_of l)))
+pub plan-answers : (l : List ℕ) (n : ℕ) → plan_tests l n ≡ Passed → plan_answer l n ≡ Ok (place (grants (flows_of l)))
 unfolding plan_answer answer plan_tests plan_table test9
 plan-answers l n e =
     let fs = flows_of l in

@@ -1,17 +1,11 @@
 -- Where a walk along the frames may start. Assumes nothing.
-use mathlib.Core.Path.{◌≡◌, refl, sym, ◌∙◌}
-use mathlib.Core.Bool.{true, false}
-use mathlib.Core.List.{List, [], ◌∷◌}
-use Prim.Native.Nat.{ℕ, zero, suc, ◌+◌, ◌-◌, ◌≤◌, ◌<◌}
-use native.Mathlib.Numerals.{add-one}
-use native.Mathlib.Omega.{arith}
-use lib.ListN.{length, get_or, take, drop, set, length-set}
+use Rattle.std.proofs.Common.{Some, None, ◌≡◌, refl, sym, ◌∙◌, true, false, List, [], ◌∷◌, ℕ, zero, suc, ◌+◌, ◌-◌, ◌≤◌, ◌<◌, add-one, arith, length, get_or, take, drop, set, length-set}
 use lib.Seq.{take-set-le}
 use borrow.Author.Tests.{lt-ltb, le-ltb, eq-eqb, ne_eqb, eqb-true}
 use Rattle.logic.proofs.Tests.{by_test, by_lt, by_eq, true-not-false}
 use Rattle.placing.specs.Rule.{past}
 use Rattle.planner.specs.Cells.{over, Reached, runs, opens, Shut, Starts, first}
-use Rattle.planner.proofs.Runs.{over-next, first-later}
+use Rattle.planner.proofs.Runs.{over-next, first-here, first-later, first-none}
 
 -- ---- a frame that does not open for some slots opens for no more of them, nor when contents have grown
 
@@ -108,6 +102,14 @@ module _ (φ : ℕ) (cs : List ℕ) where
         reached_next k o h S.0 p e q,
         λ j u. by_lt j k (S.1 j) (λ l. let z : j ≡ k = omega arith in rw (z, sym S.0.2) f),
       )
+
+      -- the search ends in a frame that opens, or behind the last one
+      module _ (e : length ls ≡ length cs) where
+        pub found_here : k < length cs → opens φ s o (drop k cs) (drop k ls) ≡ true → Some k ≡ first φ s 0 0 cs ls
+        found_here h r = sym (first-here cs ls e φ k h s o k r) ∙ first-from e
+
+        pub found_none : length cs ≤ k → None ≡ first φ s 0 0 cs ls
+        found_none h = sym (first-none cs ls e φ k s o k h) ∙ first-from e
 
       -- for more slots
       pub starts_more : (t : ℕ) → s ≤ t → Starts φ t cs ls k o

@@ -1,14 +1,10 @@
 -- The placing rule by numbers, as the code has it: for each frame its content and its limit, for each flow its frame and its base.
 -- Assumes nothing.
-use Rattle.std.specs.Prelude.{◌≡◌, Bool, true, false, ◌&&◌, List, [], ◌∷◌, ◌++◌, map, ℕ, suc, ◌+◌, ◌*◌, ◌/◌, ◌%◌, ◌≤◌, ◌<◌, min, ltb, eqb, length, get_or, set, take, drop}
+use Rattle.std.specs.Prelude.{◌≡◌, Bool, true, false, ◌&&◌, List, [], ◌∷◌, ◌++◌, map, ℕ, suc, ◌+◌, ◌*◌, ◌/◌, ◌%◌, ◌≤◌, ◌<◌, min, ltb, eqb, length, get_or, set, take, drop, Option, Some, None, Result, Ok, Err}
 use Rattle.logic.specs.Lists.{All}
 use Rattle.flows.specs.declared.flow.Flow.{Flow}
 use Rattle.lists.specs.Facts.{occupies}
-use Rattle.placing.specs.declared.Found.{Found}
-use Rattle.placing.specs.declared.Found.TheVariants.{At, Nowhere}
 use Rattle.placing.specs.Rule.{Settled, weight, past}
-use Rattle.planner.specs.declared.placed.Placed.{Placed}
-use Rattle.planner.specs.declared.placed.Placed.TheVariants.{Lawful, NoFrame}
 
 -- what passes the last of some frames, of which the first has the overhang o
 unfoldable pub over : ℕ → ℕ → List ℕ → ℕ
@@ -57,15 +53,10 @@ abbrev pub Starts : ℕ → ℕ → List ℕ → List ℕ → ℕ → ℕ → Ty
 Starts φ s cs ls k o = Reached φ cs k o × Shut φ s cs ls k
 
 -- the first such frame, counted from k
-unfoldable pub first : ℕ → ℕ → ℕ → ℕ → List ℕ → List ℕ → Found
-first φ s k o [] ls = Nowhere
-first φ s k o (c ∷ cs) [] = Nowhere
-first φ s k o (c ∷ cs) (l ∷ ls) = elim (opens φ s o (c ∷ cs) (l ∷ ls)) [ true ↦ At k | false ↦ first φ s (suc k) (past φ o c) cs ls ]
-
--- a push of p slots stops before the first of these frames: there is none, or its limit is less
-unfoldable pub stops : ℕ → List ℕ → Bool
-stops p [] = true
-stops p (l ∷ ls) = ltb l p
+unfoldable pub first : ℕ → ℕ → ℕ → ℕ → List ℕ → List ℕ → Option ℕ
+first φ s k o [] ls = None
+first φ s k o (c ∷ cs) [] = None
+first φ s k o (c ∷ cs) (l ∷ ls) = elim (opens φ s o (c ∷ cs) (l ∷ ls)) [ true ↦ Some k | false ↦ first φ s (suc k) (past φ o c) cs ls ]
 
 -- no flow takes more than b slots
 abbrev pub Small : ℕ → List Flow → Type 0
@@ -82,29 +73,29 @@ unfoldable pub step : ℕ → ℕ → ℕ → List ℕ → List ℕ → List ℕ
 step φ i j cs ls ks f =
     elim (eqb f.interval i) [
       | true ↦ elim (first φ (occupies f) 0 0 cs ls) [
-        | At k ↦ record { stands = true; contents = set cs k (get_or cs k 0 + occupies f); frames = set ks j k }
-        | Nowhere ↦ record { stands = false; contents = cs; frames = ks }
+        | Some k ↦ record { stands = true; contents = set cs k (get_or cs k 0 + occupies f); frames = set ks j k }
+        | None ↦ record { stands = false; contents = cs; frames = ks }
       ]
       | false ↦ record { stands = true; contents = cs; frames = ks }
     ]
 
 -- what placing a group leaves
 pub record Laid : Type 0 where
-  pub placed : Placed
+  pub placed : Result Unit ℕ
   pub contents : List ℕ
   pub frames : List ℕ
 
-abbrev pub laid_of : Placed → List ℕ → List ℕ → Laid
+abbrev pub laid_of : Result Unit ℕ → List ℕ → List ℕ → Laid
 laid_of p cs ks = record { placed = p; contents = cs; frames = ks }
 
 -- the flows of interval i, from the one with the index j
 unfoldable pub group_cells : ℕ → ℕ → ℕ → List ℕ → List ℕ → List ℕ → List Flow → Laid
-group_cells φ i j cs ls ks [] = record { placed = Lawful; contents = cs; frames = ks }
+group_cells φ i j cs ls ks [] = record { placed = Ok tt; contents = cs; frames = ks }
 group_cells φ i j cs ls ks (f ∷ fs) =
     let t = step φ i j cs ls ks f in
     elim t.stands [
       | true ↦ group_cells φ i (suc j) t.contents ls t.frames fs
-      | false ↦ record { placed = NoFrame (suc j); contents = t.contents; frames = t.frames }
+      | false ↦ record { placed = Err (suc j); contents = t.contents; frames = t.frames }
     ]
 
 -- what a group's end leaves: the frames' limits and the flows' bases

@@ -1,18 +1,16 @@
 -- All groups placed. Assumes nothing.
-use Rattle.std.specs.Prelude.{◌≡◌, List, ℕ, ◌*◌, ◌/◌, ◌≤◌, ◌<◌, length, get_or, take}
+use Rattle.std.specs.Prelude.{◌≡◌, List, ℕ, ◌*◌, ◌/◌, ◌≤◌, ◌<◌, length, get_or, take, Result, Ok, Err}
 use Rattle.flows.specs.declared.flow.Flow.{Flow}
 use Rattle.lists.specs.Lists.{count, flow_at}
 use Rattle.lists.specs.Facts.{cycle}
 use Rattle.placing.specs.Rule.{Outcome, done, refused, Settled, intervals}
-use Rattle.planner.specs.declared.placed.Placed.{Placed}
-use Rattle.planner.specs.declared.placed.Placed.TheVariants.{Lawful, NoFrame}
 use Rattle.planner.specs.State.{Agrees}
 
 -- the numbers are those of the list's layout, which fills the cycle; or the answer names the flow that has no lawful frame
-abbrev pub Finished : ℕ → List Flow → Outcome (List (List Settled)) → Placed → List ℕ → List ℕ → List ℕ → List ℕ → Type 0
-Finished φ fs (refused p) r cs ls ks bs = r ≡ NoFrame p
+abbrev pub Finished : ℕ → List Flow → Outcome (List (List Settled)) → Result Unit ℕ → List ℕ → List ℕ → List ℕ → List ℕ → Type 0
+Finished φ fs (refused p) r cs ls ks bs = r ≡ Err p
 Finished φ fs (done hs) r cs ls ks bs =
-    (r ≡ Lawful) × Agrees φ fs (intervals fs) hs (take (length hs) cs) (take (length hs) ls) ks bs × (length hs * φ ≡ cycle fs) × (length hs ≤ 256)
+    (r ≡ Ok tt) × Agrees φ fs (intervals fs) hs (take (length hs) cs) (take (length hs) ls) ks bs × (length hs * φ ≡ cycle fs) × (length hs ≤ 256)
 
 -- the flows of interval n have frames of their window, of at most 256 frames
 abbrev pub Housed : ℕ → List ℕ → List ℕ → ℕ → Type 0

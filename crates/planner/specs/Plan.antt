@@ -2,9 +2,7 @@
 use Rattle.std.specs.Prelude.{List, [], ℕ, leb, length}
 use Rattle.flows.specs.declared.flow.Flow.{Flow}
 use Rattle.refusals.specs.declared.Refusal.TheVariants.{Overload, Room, NoFrame}
-use Rattle.refusals.specs.declared.Checked.{Checked}
-use Rattle.refusals.specs.declared.Checked.TheVariants.{Passed, Refused}
-use Rattle.refusals.specs.declared.Written.{Written}
+use Rattle.refusals.specs.Results.{Checked, Passed, Refused, Written}
 use Rattle.refusals.specs.Tests.{◌⟫◌, unless}
 use Rattle.refusals.specs.Answers.{answer, written}
 use Rattle.lists.specs.Lists.{flows_of}

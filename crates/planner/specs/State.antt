@@ -1,10 +1,8 @@
 -- What the numbers say of the layout: the one tie between the code's state and the rule. Assumes nothing.
-use Rattle.std.specs.Prelude.{◌≡◌, true, List, [], ◌∷◌, ◌++◌, ℕ, ◌*◌, ◌/◌, ◌≤◌, ◌<◌, length, get_or, take}
+use Rattle.std.specs.Prelude.{◌≡◌, true, List, [], ◌∷◌, ◌++◌, ℕ, ◌*◌, ◌/◌, ◌≤◌, ◌<◌, length, get_or, take, Result, Ok, Err}
 use Rattle.std.specs.Int.{◌∣◌}
 use Rattle.flows.specs.declared.flow.Flow.{Flow}
 use Rattle.placing.specs.Rule.{Outcome, done, refused, Settled, Frame, lawful, settle, group, rep, opened}
-use Rattle.planner.specs.declared.placed.Placed.{Placed}
-use Rattle.planner.specs.declared.placed.Placed.TheVariants.{Lawful, NoFrame}
 use Rattle.planner.specs.Cells.{loads, limits, standing, Small}
 
 -- after the groups of the intervals is: the frames' contents cs and limits ls, the flows' frames ks and bases bs are those of the layout hs
@@ -36,15 +34,15 @@ pub record Opened (φ i w : ℕ) (fs : List Flow) (is : List ℕ) (hs : List (Li
   pub small : Small 4096 fs
 
 -- the group of interval i has ended as the rule says
-abbrev pub Closed : ℕ → ℕ → List Flow → List ℕ → Outcome (List Frame) → Placed → List ℕ → List ℕ → List ℕ → List ℕ → Type 0
-Closed φ i fs is (refused p) r cs ls ks bs = r ≡ NoFrame p
-Closed φ i fs is (done L) r cs ls ks bs = (r ≡ Lawful) × Agrees φ fs (is ++ (i ∷ [])) (settle φ 0 L) cs ls ks bs × (length L ≡ i / φ)
+abbrev pub Closed : ℕ → ℕ → List Flow → List ℕ → Outcome (List Frame) → Result Unit ℕ → List ℕ → List ℕ → List ℕ → List ℕ → Type 0
+Closed φ i fs is (refused p) r cs ls ks bs = r ≡ Err p
+Closed φ i fs is (done L) r cs ls ks bs = (r ≡ Ok tt) × Agrees φ fs (is ++ (i ∷ [])) (settle φ 0 L) cs ls ks bs × (length L ≡ i / φ)
 
 -- some groups were placed before
 abbrev pub Ready : ℕ → ℕ → ℕ → List Flow → List ℕ → List ℕ → List ℕ → List ℕ → Type 0
 Ready φ i w fs cs ls ks bs = (is : List ℕ) × (hs : List (List Settled)) × Opened φ i w fs is hs cs ls ks bs
 
 -- whichever they were, the group has ended as the rule says
-abbrev pub Added : ℕ → ℕ → ℕ → List Flow → List ℕ → List ℕ → List ℕ → List ℕ → Placed → List ℕ → List ℕ → List ℕ → List ℕ → Type 0
+abbrev pub Added : ℕ → ℕ → ℕ → List Flow → List ℕ → List ℕ → List ℕ → List ℕ → Result Unit ℕ → List ℕ → List ℕ → List ℕ → List ℕ → Type 0
 Added φ i w fs cs ls ks bs r ds ms ns es =
     (is : List ℕ) (hs : List (List Settled)) (o : Opened φ i w fs is hs cs ls ks bs) → Closed φ i fs is (group φ i 1 (opened (rep o.times hs)) fs) r ds ms ns es

@@ -10,41 +10,39 @@ pub struct Reach {
     pub over: u32,
 }
 
+impl Reach {
+    // The window's front, where every walk may begin.
+    pub const FRONT: Reach = Reach { at: 0, over: 0 };
+}
+
 // What of t slots passes a frame.
 pub(crate) fn past(t: u32, frame: u16) -> u32
     ensures { result ≡ t - frame }
 {
-    let slots = frame as u32;
-    if slots < t { t - slots } else { 0 }
+    t.saturating_sub(u32::from(frame))
 }
 
 // The overhang that comes into frame k, worked out from where a walk stands, or from the front where that is behind k.
 pub(crate) fn overhang(contents: &[u16], frame: u16, from: Reach, k: usize) -> u32
-    requires contents_len_bound { (length contents.now ≤ 256) × (k ≤ length contents.now) }
+    requires inside { (length contents.now ≤ 256) × (k ≤ length contents.now) }
     requires reached { Reached frame contents.now from.at from.over }
     ensures { Reached frame contents.now k result }
 {
-    let mut over: u32 = 0;
-    let mut j: usize = 0;
-    if from.at <= k {
-        over = from.over;
-        j = from.at;
-    }
-    while j < k {
-        over = past(over + contents[j] as u32, frame);
-        j += 1;
+    let start = if from.at <= k { from } else { Reach::FRONT };
+    let mut over = start.over;
+    for j in start.at..k {
+        over = past(over + u32::from(contents[j]), frame);
     }
     over
 }
 
 // The first `width` cells over and over.
+#[tactic(auto, using(crate::proofs::Copies::repeat_start, crate::proofs::Copies::repeat_turn, crate::proofs::Copies::repeat_end))]
 pub(crate) fn repeat(cells: &mut [u16], width: usize)
     requires { (0 < width) × (width ≤ length cells.old) }
     ensures { (r : ℕ) → length cells.old ≡ r * width → cells.new ≡ rep r (take width cells.old) }
 {
     for k in width..cells.len() {
-        let from = k - width;
-        let cell = cells[from];
-        cells[k] = cell;
+        cells[k] = cells[k - width];
     }
 }

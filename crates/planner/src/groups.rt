@@ -1,11 +1,10 @@
 // The groups of a list, placed by rising interval.
-ghost use Rattle.std.specs.Prelude.{◌≡◌, ℕ, ◌*◌, ◌≤◌, ◌<◌, length, take, get_or, replicate};
+ghost use Rattle.std.specs.Prelude.{◌≡◌, ℕ, ◌*◌, ◌≤◌, ◌<◌, length, take, get_or, replicate, Ok};
 ghost use Rattle.logic.specs.Lists.{All};
 ghost use Rattle.lists.specs.Lists.{count, flow_at, flows_of};
 ghost use Rattle.lists.specs.Facts.{frame as frame_of};
 ghost use Rattle.lists.specs.Accepted.{Accepted};
 ghost use Rattle.placing.specs.Rule.{intervals, layout};
-ghost use Rattle.planner.specs.declared.placed.Placed.TheVariants.{Lawful};
 ghost use Rattle.planner.specs.Cells.{free, over, group_cells, laid_of, end_cells, ended_of};
 ghost use Rattle.planner.specs.Order.{Group, Ordered};
 ghost use Rattle.planner.specs.State.{Ready, Added};
@@ -13,20 +12,15 @@ ghost use Rattle.planner.specs.Finished.{Finished, Housed, Taken};
 
 use crate::flow::{place, settle};
 use crate::frames::{Reach, repeat};
-use crate::order::group_at;
-use crate::placed::Placed;
+use crate::order::Groups;
 use crate::search::first_lawful;
-use placing::Found;
 
 // Where the search for a flow's frame starts: at the frame found last, whose flow took `least` slots, or at the front for a flow of
 // fewer.
 fn search_start(size: u16, least: u16, last: Reach) -> Reach
     ensures { (size < least → (result.at ≡ 0) × (result.over ≡ 0)) × (least ≤ size → (result.at ≡ last.at) × (result.over ≡ last.over)) }
 {
-    if size < least {
-        return Reach { at: 0, over: 0 };
-    }
-    last
+    if size < least { Reach::FRONT } else { last }
 }
 
 // Places the flows of one group in the window. Contents only grow and limits stand still meanwhile, so a frame in which some slots
@@ -38,30 +32,23 @@ fn place_group(
     contents: &mut [u16],
     limits: &[u16],
     frames: &mut [u8],
-) -> Placed
-    requires list_in_bounds { (count list.now ≤ length frames.old) × ((n : ℕ) × Group list.now group.now n) }
-    requires limits_len { (length limits.now ≡ length contents.old) × (length contents.old ≤ 256) × (length contents.old * frame < 65536) }
+) -> Result<(), usize>
+    requires flows_fit { count list.now ≤ length frames.old }
+    requires grouped { (n : ℕ) × Group list.now group.now n }
+    requires window { (length limits.now ≡ length contents.old) × (length contents.old ≤ 256) × (length contents.old * frame < 65536) }
     ensures { (n : ℕ) → Group list.now group.now n → laid_of result contents.new frames.new ≡ group_cells frame n 0 contents.old limits.now frames.old (flows_of list.now) }
 {
-    let mut last = Reach { at: 0, over: 0 };
-    let mut least: u16 = 0;
-    for j in 0..group.len() {
-        let i = group[j] as usize;
+    let mut last = Reach::FRONT;
+    let mut least = 0;
+    for j in group {
+        let i = usize::from(*j);
         let size = facts::occupies(lists::flow_at(list, i));
         let from = search_start(size, least, last);
-        let search = first_lawful(contents, limits, frame, size, from);
-        let found = search.found;
-        let Found::At(k) = found else {
-            return Placed::NoFrame(i + 1);
-        };
-        place(size, i, k, contents, frames);
-        last = Reach {
-            at: k,
-            over: search.over,
-        };
+        last = first_lawful(contents, limits, frame, size, from).ok_or(i + 1)?;
+        place(size, i, last.at, contents, frames);
         least = size;
     }
-    Placed::Lawful
+    Ok(())
 }
 
 // Ends one group.
@@ -74,15 +61,15 @@ fn settle_group(
     frames: &[u8],
     bases: &mut [u16],
 )
-    requires list_in_bounds { (count list.now ≤ length frames.now) × (count list.now ≤ length bases.old) }
-    requires limits_len { (length limits.old ≡ length contents.now) × (length contents.now ≤ 256) }
-    requires by_index { (n : ℕ) × Group list.now group.now n × ((i : ℕ) → i < count list.now → (flow_at list.now i).interval ≡ n → get_or frames.now i 0 < length contents.now) }
-    requires by_index_2 { (k : ℕ) → k < length contents.now → over frame 0 (take k contents.now) < 65536 }
+    requires flows_fit { (count list.now ≤ length frames.now) × (count list.now ≤ length bases.old) }
+    requires window { (length limits.old ≡ length contents.now) × (length contents.now ≤ 256) }
+    requires placed { (n : ℕ) × Group list.now group.now n × ((i : ℕ) → i < count list.now → (flow_at list.now i).interval ≡ n → get_or frames.now i 0 < length contents.now) }
+    requires overhangs_fit { (k : ℕ) → k < length contents.now → over frame 0 (take k contents.now) < 65536 }
     ensures { (n : ℕ) → Group list.now group.now n → ended_of limits.new bases.new ≡ end_cells frame n 0 contents.now limits.old frames.now bases.old (flows_of list.now) }
 {
-    let mut from = Reach { at: 0, over: 0 };
-    for j in 0..group.len() {
-        let i = group[j] as usize;
+    let mut from = Reach::FRONT;
+    for j in group {
+        let i = usize::from(*j);
         let jitter = lists::flow_at(list, i).jitter;
         from = settle(jitter, i, frame, contents, limits, frames, bases, from);
     }
@@ -98,20 +85,17 @@ fn add_group(
     limits: &mut [u16],
     frames: &mut [u8],
     bases: &mut [u16],
-) -> Placed
-    requires list_in_bounds { (count list.now ≤ length frames.old) × (count list.now ≤ length bases.old) }
-    requires by_index { (n : ℕ) × Group list.now group.now n × Ready frame n width (flows_of list.now) contents.old limits.old frames.old bases.old }
-    ensures by_index_2 { (n : ℕ) → Group list.now group.now n → Added frame n width (flows_of list.now) contents.old limits.old frames.old bases.old result contents.new limits.new frames.new bases.new }
-    ensures by_index_3 { (n : ℕ) → Group list.now group.now n → Ready frame n width (flows_of list.now) contents.old limits.old frames.old bases.old → result ≡ Lawful → Taken list.now n (length contents.old) frames.old frames.new }
+) -> Result<(), usize>
+    requires flows_fit { (count list.now ≤ length frames.old) × (count list.now ≤ length bases.old) }
+    requires ready { (n : ℕ) × Group list.now group.now n × Ready frame n width (flows_of list.now) contents.old limits.old frames.old bases.old }
+    ensures added { (n : ℕ) → Group list.now group.now n → Added frame n width (flows_of list.now) contents.old limits.old frames.old bases.old result contents.new limits.new frames.new bases.new }
+    ensures taken { (n : ℕ) → Group list.now group.now n → Ready frame n width (flows_of list.now) contents.old limits.old frames.old bases.old → result ≡ Ok tt → Taken list.now n (length contents.old) frames.old frames.new }
 {
     repeat(contents, width);
     repeat(limits, width);
-    let placed = place_group(list, group, frame, contents, limits, frames);
-    if let Placed::NoFrame(p) = placed {
-        return Placed::NoFrame(p);
-    }
+    place_group(list, group, frame, contents, limits, frames)?;
     settle_group(list, group, frame, contents, limits, frames, bases);
-    Placed::Lawful
+    Ok(())
 }
 
 // Places every flow, group by group in the order of placing.
@@ -123,34 +107,28 @@ pub(crate) fn place_all(
     limits: &mut [u16],
     frames: &mut [u8],
     bases: &mut [u16],
-) -> Placed
-    requires list_in_bounds { (count list.now ≤ length frames.old) × (count list.now ≤ length bases.old) × Ordered list.now order.now }
+) -> Result<(), usize>
+    requires flows_fit { (count list.now ≤ length frames.old) × (count list.now ≤ length bases.old) }
+    requires ordered { Ordered list.now order.now }
     requires accepted { Accepted (flows_of list.now) × (frame ≡ frame_of (flows_of list.now)) }
-    requires contents_value { (contents.old ≡ replicate 256 0) × (limits.old ≡ replicate 256 free) }
+    requires empty { (contents.old ≡ replicate 256 0) × (limits.old ≡ replicate 256 free) }
     ensures finished { Finished frame (flows_of list.now) (layout (flows_of list.now)) result contents.new limits.new frames.new bases.new }
-    ensures all { result ≡ Lawful → All (Housed frame list.now frames.new) (intervals (flows_of list.now)) }
+    ensures housed { result ≡ Ok tt → All (Housed frame list.now frames.new) (intervals (flows_of list.now)) }
 {
-    let mut width: usize = 1;
-    let mut start: usize = 0;
-    while start < order.len() {
-        let group = group_at(list, order, start);
-        let end = group.end;
-        let window = (group.interval / frame) as usize;
-        let placed = add_group(
+    let mut width = 1;
+    for (interval, group) in (Groups { list, order }) {
+        let window = usize::from(interval / frame);
+        add_group(
             list,
-            &order[start..end],
+            group,
             frame,
             width,
-            &mut contents[0..window],
-            &mut limits[0..window],
+            &mut contents[..window],
+            &mut limits[..window],
             frames,
             bases,
-        );
-        if let Placed::NoFrame(p) = placed {
-            return Placed::NoFrame(p);
-        }
+        )?;
         width = window;
-        start = end;
     }
-    Placed::Lawful
+    Ok(())
 }

@@ -11,7 +11,6 @@ mod groups;
 mod intervals;
 mod links;
 mod order;
-mod placed;
 mod planning;
 mod search;
 

@@ -5,8 +5,8 @@ use mathlib.Core.List.{List, [], ◌∷◌}
 use Prim.Native.Nat.{ℕ, suc, ◌<◌}
 use native.Mathlib.Omega.{arith}
 use Rattle.refusals.specs.declared.Refusal.{Refusal}
-use Rattle.refusals.specs.declared.Checked.{Checked}
-use Rattle.refusals.specs.declared.Checked.TheVariants.{Passed, Refused}
+use Rattle.std.proofs.Common.{Ok, Err}
+use Rattle.refusals.specs.Results.{Checked, Passed, Refused}
 use Rattle.refusals.specs.Refusals.{number}
 use Rattle.refusals.specs.Tests.{◌⟫◌, unless, lowest}
 use Rattle.refusals.proofs.Chains.{refused-not}
@@ -17,8 +17,8 @@ Below k c = (r : Refusal) → c ≡ Refused r → number r < k
 
 module _ (k : ℕ) where
   pub below_both : (a b : Checked) → Below k a → Below k b → Below k (a ⟫ b)
-  below_both Passed b p q = q
-  below_both (Refused s) b p q = p
+  below_both (Ok tt) b p q = q
+  below_both (Err s) b p q = p
 
   pub below-unless : (t : Bool) (s : Refusal) → number s < k → Below k (unless t s)
   below-unless true s h r e = refused-not r (sym e)
@@ -32,5 +32,5 @@ module _ (k : ℕ) where
 
 -- a refusal whose number the first test has not is the second's
 pub second_refuses : (a b : Checked) (r : Refusal) → Below (number r) a → (a ⟫ b) ≡ Refused r → (a ≡ Passed) × (b ≡ Refused r)
-second_refuses Passed b r h e = (refl, e)
-second_refuses (Refused s) b r h e = absurd (omega (arith, h r e))
+second_refuses (Ok tt) b r h e = (refl, e)
+second_refuses (Err s) b r h e = absurd (omega (arith, h r e))

@@ -4,8 +4,8 @@ use mathlib.Core.Bool.{Bool, true, false}
 use Prim.Native.Nat.{ℕ}
 use native.Mathlib.Omega.{arith}
 use Rattle.refusals.specs.declared.Refusal.{Refusal}
-use Rattle.refusals.specs.declared.Checked.{Checked}
-use Rattle.refusals.specs.declared.Checked.TheVariants.{Passed, Refused}
+use Rattle.std.proofs.Common.{Ok, Err}
+use Rattle.refusals.specs.Results.{Checked, Passed, Refused}
 use Rattle.refusals.specs.Tests.{◌⟫◌, unless}
 
 -- nothing is refused and passed
@@ -14,8 +14,8 @@ refused-not r e = let z : ◌≡◌ {A = ℕ} 0 1 = cc in absurd (omega arith)
 
 -- two tests pass exactly where each does
 pub both_passed : (a b : Checked) → (a ⟫ b) ≡ Passed → (a ≡ Passed) × (b ≡ Passed)
-both_passed Passed b e = (refl, e)
-both_passed (Refused r) b e = refused-not r e
+both_passed (Ok tt) b e = (refl, e)
+both_passed (Err r) b e = refused-not r e
 
 pub passed_both : (a b : Checked) → a ≡ Passed → b ≡ Passed → (a ⟫ b) ≡ Passed
 passed_both a b p q = rw (p, q)
@@ -30,13 +30,13 @@ first_passes a b c e q = rw e q
 
 -- how a chain is bracketed does not matter
 pub chain_assoc : (a b c : Checked) → ((a ⟫ b) ⟫ c) ≡ (a ⟫ (b ⟫ c))
-chain_assoc Passed b c = refl
-chain_assoc (Refused r) b c = refl
+chain_assoc (Ok tt) b c = refl
+chain_assoc (Err r) b c = refl
 
 -- nothing follows
 pub chain_passed : (a : Checked) → (a ⟫ Passed) ≡ a
-chain_passed Passed = refl
-chain_passed (Refused r) = refl
+chain_passed (Ok tt) = refl
+chain_passed (Err r) = refl
 
 -- a test that names no place, both ways
 module _ (t : Bool) (r : Refusal) where

@@ -7,7 +7,7 @@ use Prim.Native.Nat.{ℕ}
 use Rattle.logic.specs.Lists.{All, every, Neighbours}
 use Rattle.logic.proofs.Members.{all_each, all_imp, all_both, every-all, all-every}
 use Rattle.refusals.specs.declared.Refusal.{Refusal}
-use Rattle.refusals.specs.declared.Checked.TheVariants.{Passed}
+use Rattle.refusals.specs.Results.{Passed}
 use Rattle.refusals.specs.Tests.{lowest, against, after}
 use Rattle.refusals.proofs.Lowest.{Pass, lowest_pass, pass_lowest}
 

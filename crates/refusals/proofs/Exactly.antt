@@ -8,8 +8,8 @@ use native.Mathlib.Omega.{arith}
 use lib.ListN.{get_or}
 use Rattle.logic.proofs.Tests.{true-not-false}
 use Rattle.refusals.specs.declared.Refusal.{Refusal}
-use Rattle.refusals.specs.declared.Checked.{Checked}
-use Rattle.refusals.specs.declared.Checked.TheVariants.{Passed, Refused}
+use Rattle.std.proofs.Common.{Ok, Err}
+use Rattle.refusals.specs.Results.{Checked, Passed, Refused}
 use Rattle.refusals.specs.Tests.{lowest}
 use Rattle.refusals.specs.First.{in_order, FirstFault, LowestPlace}
 use Rattle.refusals.proofs.Chains.{refused-not}
@@ -19,14 +19,14 @@ use Rattle.refusals.proofs.Chains.{refused-not}
 first_found : (ts : List Checked) (r : Refusal) → in_order ts ≡ Refused r → FirstFault ts r
 unfolding in_order
 first_found [] r e = refused-not r (sym e)
-first_found (Passed ∷ ts) r e =
+first_found ((Ok tt) ∷ ts) r e =
     let ih = first_found ts r e in
     record { test = suc ih.test; found = ih.found; passed_before = before ih.passed_before }
   where
     before : {k : ℕ} → ((j : ℕ) → j < k → get_or ts j Passed ≡ Passed) → (j : ℕ) → j < suc k → get_or (Passed ∷ ts) j Passed ≡ Passed
     before h zero l = refl
     before h (suc j) l = h j (omega arith)
-first_found (Refused q ∷ ts) r e = record { test = 0; found = e; passed_before = λ j l. absurd (omega arith) }
+first_found (Err q ∷ ts) r e = record { test = 0; found = e; passed_before = λ j l. absurd (omega arith) }
 
 found_first : (ts : List Checked) (r : Refusal) (k : ℕ) → get_or ts k Passed ≡ Refused r → ((j : ℕ) → j < k → get_or ts j Passed ≡ Passed) → in_order ts ≡ Refused r
 unfolding in_order

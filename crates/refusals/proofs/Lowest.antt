@@ -9,8 +9,7 @@ use lib.ListN.{length}
 use Rattle.logic.specs.Lists.{All}
 use Rattle.logic.proofs.Tests.{by_test}
 use Rattle.refusals.specs.declared.Refusal.{Refusal}
-use Rattle.refusals.specs.declared.Checked.{Checked}
-use Rattle.refusals.specs.declared.Checked.TheVariants.{Passed, Refused}
+use Rattle.refusals.specs.Results.{Checked, Passed, Refused}
 use Rattle.refusals.specs.Tests.{◌⟫◌, unless, lowest}
 use Rattle.refusals.proofs.Chains.{refused-not, chain_assoc}
 

@@ -6,10 +6,10 @@ use Prim.Native.Nat.{ℕ, zero, suc, ◌+◌, ◌≤◌, ◌<◌}
 use native.Mathlib.Numerals.{add-one}
 use lib.ListN.{length, get_or, drop, drop_of_length-le}
 use lib.Seq.{drop-cons}
+use Rattle.logic.proofs.Tests.{by_test}
 use Rattle.refusals.specs.declared.Refusal.{Refusal}
-use Rattle.refusals.specs.declared.Checked.{Checked}
-use Rattle.refusals.specs.declared.Checked.TheVariants.{Passed, Refused}
-use Rattle.refusals.specs.Tests.{unless, lowest, against, after}
+use Rattle.refusals.specs.Results.{Checked, Passed, Refused}
+use Rattle.refusals.specs.Tests.{◌⟫◌, unless, lowest, against, after}
 use Rattle.refusals.proofs.Lowest.{lowest-more, lowest-next, lowest-here}
 
 -- the entries before entry i, the nearest first
@@ -53,6 +53,10 @@ module _ {ℓ} {A : Type ℓ} (refusal : ℕ → Refusal) (ok : List A → A →
     pub walk_here : b ≡ false → Refused (refusal (i + 1)) ≡ walk refusal ok xs d i
     walk_here t =
         sym (ap (lowest refusal (i + 1)) opens ∙ lowest-here refusal (i + 1) b (against ok (before xs d (suc i)) (drop (suc i) xs)) t)
+
+    -- what is said from it on: what its test says, and then the rest
+    pub walk-turn : walk refusal ok xs d i ≡ unless b (refusal (i + 1)) ⟫ walk refusal ok xs d (i + 1)
+    walk-turn = by_test b (λ t. walk-next t ∙ rw t) (λ t. sym (walk_here t) ∙ rw t)
 
 -- a test against the entry before alone
 pub against-after {ℓ} : {A : Type ℓ} (ok : A → A → Bool) (y : A) (seen : List A) (x : A) (xs : List A)

@@ -1,4 +1,5 @@
 pub mod Refusals
+pub mod Results
 pub mod Tests
 pub mod First
 pub mod Answers

@@ -1,15 +1,14 @@
 -- Document 01: "Tests run in the order shown, each over the whole input before the next, and the lowest place is named. A
 -- refusal is given exactly when its test is the first to find fault." Assumes nothing.
-use Rattle.std.specs.Prelude.{ℕ, suc, Bool, true, false, cond, List, [], ◌∷◌}
+use Rattle.std.specs.Prelude.{ℕ, suc, Bool, true, false, cond, List, [], ◌∷◌, Ok, Err}
 use Rattle.refusals.specs.declared.Refusal.{Refusal}
-use Rattle.refusals.specs.declared.Checked.{Checked}
-use Rattle.refusals.specs.declared.Checked.TheVariants.{Passed, Refused}
+use Rattle.refusals.specs.Results.{Checked, Passed, Refused}
 
 infixr 20 ◌⟫◌
 -- tests in order: the first that finds fault is the one that answers
 abbrev pub ◌⟫◌ : Checked → Checked → Checked
-Passed ⟫ b = b
-Refused r ⟫ b = Refused r
+(Ok tt) ⟫ b = b
+Err r ⟫ b = Refused r
 
 -- a test that names no place
 abbrev pub unless : Bool → Refusal → Checked

@@ -1,4 +1,4 @@
-// Document 01's refusals and those that document 02 adds, and the answers that carry one.
+// Document 01's refusals and those that document 02 adds: an operation answers by a `Result` that carries one.
 #![tactic(auto)]
 
 ghost use Rattle.std.specs.Prelude.{◌≡◌};
@@ -67,20 +67,6 @@ pub enum Refusal {
     BelowBase(usize),
 }
 
-// What tests answer.
-#[derive(Clone, Copy)]
-pub enum Checked {
-    Passed,
-    Refused(Refusal),
-}
-
-// What an operation that writes answers: how many bytes now stand at the room's front, or a refusal.
-#[derive(Clone, Copy)]
-pub enum Written {
-    Bytes(usize),
-    Refused(Refusal),
-}
-
 impl Refusal {
     // Its number in document 01.
     pub fn number(self) -> u32
@@ -123,47 +109,37 @@ impl Refusal {
         ensures { result ≡ place self }
     {
         match self {
-            Refusal::Length => 0,
-            Refusal::Head => 0,
-            Refusal::Count => 0,
-            Refusal::Field(p) => p,
-            Refusal::UsedNumber(p) => p,
-            Refusal::Unrelated(p) => p,
-            Refusal::Limits => 0,
-            Refusal::Overload => 0,
-            Refusal::Room => 0,
-            Refusal::NoFrame(p) => p,
-            Refusal::TableForm => 0,
-            Refusal::NotRising(p) => p,
-            Refusal::OtherCycle => 0,
-            Refusal::UnknownFlow(p) => p,
-            Refusal::GrantCount(p) => p,
-            Refusal::Timing(p) => p,
-            Refusal::Overlap(p) => p,
-            Refusal::PastCycle(p) => p,
-            Refusal::WindowEnds => 0,
-            Refusal::Line(p) => p,
-            Refusal::OutsideSpan => 0,
-            Refusal::NoOffset => 0,
-            Refusal::Encoding(p) => p,
-            Refusal::MissingSetting(p) => p,
-            Refusal::NotWhole(p) => p,
-            Refusal::NoChannel => 0,
-            Refusal::NoBase => 0,
-            Refusal::BelowBase(p) => p,
+            Refusal::Field(p)
+            | Refusal::UsedNumber(p)
+            | Refusal::Unrelated(p)
+            | Refusal::NoFrame(p)
+            | Refusal::NotRising(p)
+            | Refusal::UnknownFlow(p)
+            | Refusal::GrantCount(p)
+            | Refusal::Timing(p)
+            | Refusal::Overlap(p)
+            | Refusal::PastCycle(p)
+            | Refusal::Line(p)
+            | Refusal::Encoding(p)
+            | Refusal::MissingSetting(p)
+            | Refusal::NotWhole(p)
+            | Refusal::BelowBase(p) => p,
+            _ => 0,
         }
     }
 }
 
+// Passes, or refuses by r.
+pub fn unless(passes: bool, r: Refusal) -> Result<(), Refusal>
+    ensures { result ≡ unless passes r }
+{
+    if passes { Ok(()) } else { Err(r) }
+}
+
 // The tests so far, and then one that refuses by r unless it passes: the first that finds fault is the one that answers.
-pub fn noted(before: Checked, passes: bool, r: Refusal) -> Checked
+pub fn noted(before: Result<(), Refusal>, passes: bool, r: Refusal) -> Result<(), Refusal>
     ensures { result ≡ (before ⟫ unless passes r) }
 {
-    if let Checked::Refused(first) = before {
-        return Checked::Refused(first);
-    }
-    if passes {
-        return Checked::Passed;
-    }
-    Checked::Refused(r)
+    before?;
+    unless(passes, r)
 }

@@ -1,47 +1,30 @@
 // A flow whose interval is rounded to a base.
-ghost use Rattle.std.specs.Prelude.{◌≡◌, ◌-◌, min};
+ghost use Rattle.std.specs.Prelude.{◌≡◌};
 ghost use Rattle.bases.specs.Rounding.{rounded, rounded_flow};
 
 use flows::Flow;
 
 // The largest base times a power of two not above the interval; 0 where there is none. The power is the place of the highest one bit
 // of how often the base goes into the interval.
+#[tactic(auto, using(crate::proofs::Powers::goes_never, crate::proofs::Powers::bit_there, crate::proofs::Powers::bit_rounded))]
 fn rounded(base: u16, interval: u16) -> u16
     ensures { result ≡ rounded base interval }
 {
-    if base == 0 {
-        return 0;
+    match interval.checked_div(base) {
+        None | Some(0) => 0,
+        Some(times) => base << (15 - times.leading_zeros()),
     }
-    let times = interval / base;
-    if times == 0 {
-        return 0;
-    }
-    let power = 15 - u16::leading_zeros(times);
-    base << power
-}
-
-// The jitter, capped at the interval less one.
-fn capped(jitter: u16, interval: u16) -> u16
-    ensures { result ≡ min jitter (interval - 1) }
-{
-    if jitter < interval {
-        return jitter;
-    }
-    if interval == 0 {
-        return 0;
-    }
-    interval - 1
 }
 
 // The flow with its interval rounded: the size stays, and the jitter is capped at the new interval less one.
+#[tactic(auto, unfolding(bases::specs::Rounding::rounded_flow))]
 pub(crate) fn rounded_flow(base: u16, f: Flow) -> Flow
     ensures { result ≡ rounded_flow base f }
 {
     let interval = rounded(base, f.interval);
     Flow {
-        number: f.number,
-        size: f.size,
-        interval: interval,
-        jitter: capped(f.jitter, interval),
+        interval,
+        jitter: f.jitter.min(interval.saturating_sub(1)),
+        ..f
     }
 }

@@ -1,50 +1,42 @@
 // Tests 27 and 28, and test 4 on the new list.
-ghost use Rattle.std.specs.Prelude.{◌≡◌};
-ghost use Rattle.logic.specs.Numbers.{among};
-ghost use Rattle.flows.specs.Flows.{keeps};
+ghost use Rattle.std.specs.Prelude.{◌≡◌, IfOk, IfErr};
+ghost use Rattle.refusals.specs.Results.{Passed, Refused};
 ghost use Rattle.refusals.specs.Tests.{◌⟫◌};
 ghost use Rattle.lists.specs.Lists.{flows_of};
 ghost use Rattle.lists.specs.Tests.{test4};
 ghost use Rattle.bases.specs.Rounding.{rounded_flows};
-ghost use Rattle.bases.specs.Tests.{test28};
+ghost use Rattle.bases.specs.Tests.{test27, test28};
 
 use crate::flow::rounded_flow;
-use flows::{Flow, Rule};
 use lists::{count, flow_at};
-use refusals::{Checked, Refusal, noted};
+use refusals::{Refusal, noted};
 
-// Test 27: a base is 1 to 4,096.
-pub(crate) fn is_base(base: u64) -> bool
-    ensures { result ≡ among 1 4096 base }
+// Test 27: the base as a number of 16 bits, where it is 1 to 4,096.
+#[tactic(auto, unfolding(bases::specs::Tests::test27))]
+pub(crate) fn base_of(base: u64) -> Result<u16, Refusal>
+    ensures passed { IfOk result (λ b. (b ≡ base) × (test27 base ≡ Passed)) }
+    ensures refused { IfErr result (λ r. test27 base ≡ Refused r) }
 {
-    1 <= base && base <= 4096
-}
-
-// The flow keeps the rule of test 4.
-fn keeps(f: Flow) -> bool
-    ensures { result ≡ keeps f }
-{
-    let rule = f.rule();
-    match rule {
-        Rule::Kept => true,
-        Rule::Broken => false,
+    match u16::try_from(base) {
+        Ok(base) if (1..=4096).contains(&base) => Ok(base),
+        _ => Err(Refusal::NoBase),
     }
 }
 
 // Test 28 and then 4 on the new list, in one look. The first interval below the base ends it, so test 4 is answered only where every
 // interval reaches the base.
-pub(crate) fn new_list_tests(list: &[u8], base: u16) -> Checked
+#[tactic(auto, using(crate::proofs::Looking::look_start, crate::proofs::Looking::look_below, crate::proofs::Looking::look_next))]
+pub(crate) fn new_list_tests(list: &[u8], base: u16) -> Result<(), Refusal>
     ensures { result ≡ (test28 base (flows_of list.now) ⟫ test4 (rounded_flows base (flows_of list.now))) }
 {
-    let n = count(list);
-    let mut rules = Checked::Passed;
-    for i in 0..n {
+    let mut rules = Ok(());
+    for i in 0..count(list) {
         let f = flow_at(list, i);
         if f.interval < base {
-            return Checked::Refused(Refusal::BelowBase(i + 1));
+            return Err(Refusal::BelowBase(i + 1));
         }
         let new = rounded_flow(base, f);
-        rules = noted(rules, keeps(new), Refusal::Field(i + 1));
+        rules = noted(rules, new.keeps(), Refusal::Field(i + 1));
     }
     rules
 }

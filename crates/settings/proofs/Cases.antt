@@ -1,15 +1,11 @@
 -- Runs of settings and what they answer, computed as lists, each under one claim. Assumes nothing.
-use mathlib.Core.Path.{◌≡◌, refl}
-use mathlib.Core.List.{List, [], ◌∷◌, ◌++◌}
-use Prim.Native.Nat.{ℕ}
-use lib.ListN.{length}
+use Rattle.std.proofs.Common.{◌≡◌, refl, List, [], ◌∷◌, ◌++◌, ℕ, length, Ok, Err}
 use Rattle.logic.specs.Lists.{All, every}
 use Rattle.fields.specs.Records.{packed}
 use Rattle.flows.specs.declared.flow.Flow.{Flow}
 use Rattle.flows.specs.Flows.{keeps, packed_flow}
 use Rattle.refusals.specs.declared.Refusal.TheVariants.{Count, Field, Unrelated, Room, Encoding, MissingSetting, NotWhole, NoChannel}
-use Rattle.refusals.specs.declared.Written.{Written}
-use Rattle.refusals.specs.declared.Written.TheVariants.{Bytes, Refused as Stopped}
+use Rattle.refusals.specs.Results.{Written}
 use Rattle.refusals.specs.Tests.{lowest, against}
 use Rattle.refusals.specs.Answers.{answer}
 use Rattle.lists.specs.Lists.{head, records, list_of}
@@ -74,50 +70,50 @@ worked_number = refl
 -- a channel, a run, the bytes of the room, and the answer
 abbrev answers : List (Channel × List ℕ × ℕ × Written)
 answers =
-    (slots, voice 2, 16, Bytes 16)
-    ∷ (slots, voice 2 ++ voice 1, 30, Bytes 22)
+    (slots, voice 2, 16, Ok 16)
+    ∷ (slots, voice 2 ++ voice 1, 30, Ok 22)
     -- other settings are stepped over: types 0, 255, 23 and 24
-    ∷ (slots, encoding (0 ∷ 0 ∷ 255 ∷ 1 ∷ 19 ∷ (four 232 78 32 2 ++ (23 ∷ 2 ∷ 22 ∷ 1 ∷ 24 ∷ 0 ∷ []))), 16, Bytes 16)
+    ∷ (slots, encoding (0 ∷ 0 ∷ 255 ∷ 1 ∷ 19 ∷ (four 232 78 32 2 ++ (23 ∷ 2 ∷ 22 ∷ 1 ∷ 24 ∷ 0 ∷ []))), 16, Ok 16)
     -- 26, either value
-    ∷ (channel 0 16, voice 2, 16, Stopped NoChannel)
-    ∷ (channel 125 0, voice 2, 16, Stopped NoChannel)
+    ∷ (channel 0 16, voice 2, 16, Err NoChannel)
+    ∷ (channel 125 0, voice 2, 16, Err NoChannel)
     -- 23: one byte left, a length past the end, other types at the top
-    ∷ (slots, voice 2 ++ (24 ∷ []), 16, Stopped (Encoding 2))
-    ∷ (slots, voice 2 ++ (24 ∷ 1 ∷ []), 16, Stopped (Encoding 2))
-    ∷ (slots, voice 2 ++ (25 ∷ 0 ∷ []), 16, Stopped (Encoding 2))
-    ∷ (slots, 0 ∷ 0 ∷ voice 2, 16, Stopped (Encoding 1))
-    ∷ (slots, 255 ∷ 0 ∷ voice 2, 16, Stopped (Encoding 1))
+    ∷ (slots, voice 2 ++ (24 ∷ []), 16, Err (Encoding 2))
+    ∷ (slots, voice 2 ++ (24 ∷ 1 ∷ []), 16, Err (Encoding 2))
+    ∷ (slots, voice 2 ++ (25 ∷ 0 ∷ []), 16, Err (Encoding 2))
+    ∷ (slots, 0 ∷ 0 ∷ voice 2, 16, Err (Encoding 1))
+    ∷ (slots, 255 ∷ 0 ∷ voice 2, 16, Err (Encoding 1))
     -- inside: a length past the encoding, though not past the run, and one byte left
-    ∷ (slots, encoding (four 232 78 32 2 ++ (23 ∷ 1 ∷ [])) ++ voice 2, 28, Stopped (Encoding 1))
-    ∷ (slots, encoding (four 232 78 32 2 ++ (23 ∷ [])), 16, Stopped (Encoding 1))
+    ∷ (slots, encoding (four 232 78 32 2 ++ (23 ∷ 1 ∷ [])) ++ voice 2, 28, Err (Encoding 1))
+    ∷ (slots, encoding (four 232 78 32 2 ++ (23 ∷ [])), 16, Err (Encoding 1))
     -- one of the four repeated, and of wrong length
-    ∷ (slots, encoding (four 232 78 32 2 ++ grants 2), 16, Stopped (Encoding 1))
-    ∷ (slots, voice 2 ++ encoding (size 232 ++ (interval 78 32 ++ (jitter ++ (22 ∷ 2 ∷ 0 ∷ 2 ∷ [])))), 28, Stopped (Encoding 2))
+    ∷ (slots, encoding (four 232 78 32 2 ++ grants 2), 16, Err (Encoding 1))
+    ∷ (slots, voice 2 ++ encoding (size 232 ++ (interval 78 32 ++ (jitter ++ (22 ∷ 2 ∷ 0 ∷ 2 ∷ [])))), 28, Err (Encoding 2))
     -- 24: none of the four, and one missing
-    ∷ (slots, encoding [], 16, Stopped (MissingSetting 1))
-    ∷ (slots, voice 2 ++ encoding (size 232 ++ (interval 78 32 ++ grants 2)), 28, Stopped (MissingSetting 2))
+    ∷ (slots, encoding [], 16, Err (MissingSetting 1))
+    ∷ (slots, voice 2 ++ encoding (size 232 ++ (interval 78 32 ++ grants 2)), 28, Err (MissingSetting 2))
     -- 25
-    ∷ (slots, voice 2 ++ odd 2, 28, Stopped (NotWhole 2))
+    ∷ (slots, voice 2 ++ odd 2, 28, Err (NotWhole 2))
     -- 3: nothing, no grant, and too many; 128 are taken
-    ∷ (slots, [], 16, Stopped Count)
-    ∷ (slots, voice 0, 16, Stopped Count)
-    ∷ (slots, voice 255, 1534, Stopped Count)
-    ∷ (slots, voice 128, 772, Bytes 772)
+    ∷ (slots, [], 16, Err Count)
+    ∷ (slots, voice 0, 16, Err Count)
+    ∷ (slots, voice 255, 1534, Err Count)
+    ∷ (slots, voice 128, 772, Ok 772)
     -- 4: no bytes, and an interval of 0, which is whole
-    ∷ (slots, voice 2 ++ encoding (four 0 78 32 1), 22, Stopped (Field 3))
-    ∷ (slots, encoding (four 232 0 0 2), 16, Stopped (Field 1))
+    ∷ (slots, voice 2 ++ encoding (four 0 78 32 1), 22, Err (Field 3))
+    ∷ (slots, encoding (four 232 0 0 2), 16, Err (Field 1))
     -- 6: 100 slots against 160
-    ∷ (slots, voice 2 ++ other 232, 22, Stopped (Unrelated 3))
+    ∷ (slots, voice 2 ++ other 232, 22, Err (Unrelated 3))
     -- 9: a byte too few
-    ∷ (slots, voice 2, 15, Stopped Room)
+    ∷ (slots, voice 2, 15, Err Room)
     -- two faults at once: 26 before 23, 23 before 24, 24 before 25, 25 before 3, 3 before 4, 4 before 6, 6 before 9
-    ∷ (channel 0 16, 24 ∷ [], 16, Stopped NoChannel)
-    ∷ (slots, encoding [] ++ (24 ∷ []), 16, Stopped (Encoding 2))
-    ∷ (slots, odd 2 ++ encoding [], 16, Stopped (MissingSetting 2))
-    ∷ (slots, odd 0, 16, Stopped (NotWhole 1))
-    ∷ (slots, encoding (four 0 78 32 129), 778, Stopped Count)
-    ∷ (slots, voice 2 ++ (other 232 ++ other 0), 28, Stopped (Field 4))
-    ∷ (slots, voice 2 ++ other 232, 0, Stopped (Unrelated 3))
+    ∷ (channel 0 16, 24 ∷ [], 16, Err NoChannel)
+    ∷ (slots, encoding [] ++ (24 ∷ []), 16, Err (Encoding 2))
+    ∷ (slots, odd 2 ++ encoding [], 16, Err (MissingSetting 2))
+    ∷ (slots, odd 0, 16, Err (NotWhole 1))
+    ∷ (slots, encoding (four 0 78 32 129), 778, Err Count)
+    ∷ (slots, voice 2 ++ (other 232 ++ other 0), 28, Err (Field 4))
+    ∷ (slots, voice 2 ++ other 232, 0, Err (Unrelated 3))
     ∷ []
 
 -- each is answered by what stands beside it

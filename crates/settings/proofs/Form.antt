@@ -1,21 +1,12 @@
 -- Reading and form agree: tests 23 and 24 pass exactly where the bytes are a run of upstream service flow encodings with each of the
 -- four settings exactly once, and a run asks for one thing only. Assumes nothing.
-use mathlib.Core.Path.{◌≡◌, refl, sym, ap, subst, ◌∙◌}
-use mathlib.Core.Bool.{Bool, true}
-use mathlib.Core.Logic.{◌↔◌}
-use mathlib.Core.List.{List, [], ◌∷◌, ◌++◌, map}
-use Prim.Native.Nat.{ℕ, zero, suc, ◌≤◌}
-use native.Mathlib.Omega.{arith}
-use lib.Dec.{leb, eqb}
-use lib.ListN.{length, drop, length-drop, take-append-drop}
-use lib.Seq.{length-take-le}
-use borrow.Author.Tests.{leb-true, eq-eqb, eqb-true}
+use Rattle.std.proofs.Common.{◌≡◌, refl, sym, ap, subst, ◌∙◌, Bool, true, ◌↔◌, List, [], ◌∷◌, ◌++◌, map, ℕ, zero, suc, ◌≤◌, arith, leb, eqb, length, drop, length-drop, take-append-drop, length-take-le, leb-true, eq-eqb, eqb-true}
 use Rattle.logic.specs.Lists.{All, every}
 use Rattle.logic.proofs.Tests.{by_test, true-not-false, and_both}
 use Rattle.logic.proofs.Members.{all_imp, all_both, all-every}
 use Rattle.refusals.specs.declared.Refusal.{Refusal}
 use Rattle.refusals.specs.declared.Refusal.TheVariants.{Encoding, MissingSetting}
-use Rattle.refusals.specs.declared.Checked.TheVariants.{Passed}
+use Rattle.refusals.specs.Results.{Passed}
 use Rattle.refusals.specs.Tests.{lowest}
 use Rattle.refusals.proofs.Entries.{each_passed}
 use Rattle.settings.specs.declared.Said.{Said}

@@ -1,16 +1,10 @@
 -- Numbers as they come are never used twice. Assumes nothing.
-use mathlib.Core.Path.{◌≡◌}
-use mathlib.Core.Bool.{true, not}
-use mathlib.Core.List.{List, [], ◌∷◌}
-use Prim.Native.Nat.{ℕ, suc, ◌<◌}
-use native.Mathlib.Omega.{arith}
-use lib.Dec.{eqb}
-use borrow.Author.Tests.{ne_eqb}
+use Rattle.std.proofs.Common.{◌≡◌, true, not, List, [], ◌∷◌, ℕ, suc, ◌<◌, arith, eqb, ne_eqb}
 use Rattle.logic.specs.Lists.{All}
 use Rattle.logic.proofs.Members.{all_imp, all-every}
 use Rattle.flows.specs.declared.flow.Flow.{Flow}
 use Rattle.refusals.specs.declared.Refusal.TheVariants.{UsedNumber}
-use Rattle.refusals.specs.declared.Checked.TheVariants.{Passed}
+use Rattle.refusals.specs.Results.{Passed}
 use Rattle.refusals.specs.Tests.{against}
 use Rattle.refusals.proofs.Lowest.{Pass, pass_lowest}
 use Rattle.lists.specs.Tests.{new_number, test5}

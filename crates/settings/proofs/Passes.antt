@@ -1,9 +1,6 @@
 -- The list of a run that passes its tests passes tests 1 to 6 of a list. Assumes nothing.
-use mathlib.Core.Path.{◌≡◌, ap, ◌∙◌}
-use mathlib.Core.List.{List}
-use Prim.Native.Nat.{ℕ}
-use lib.ListN.{length}
-use Rattle.refusals.specs.declared.Checked.TheVariants.{Passed}
+use Rattle.std.proofs.Common.{◌≡◌, ap, ◌∙◌, List, ℕ, length}
+use Rattle.refusals.specs.Results.{Passed}
 use Rattle.refusals.proofs.Chains.{both_passed}
 use Rattle.lists.specs.Lists.{flows_of, list_of}
 use Rattle.lists.specs.Tests.{test3, test4, test5, test6, tests1to4}

@@ -1,11 +1,7 @@
 -- What stands at the front of a run: nothing, an item and the rest behind it, or a broken one. Assumes nothing.
-use mathlib.Core.Path.{◌≡◌, refl, ap}
-use mathlib.Core.List.{List, [], ◌∷◌, ◌++◌}
-use Prim.Native.Nat.{ℕ, zero, suc, ◌≤◌, ◌<◌}
-use native.Mathlib.Omega.{arith}
-use lib.ListN.{length, take, drop, length-append, length-drop}
-use lib.Seq.{take-append_seam, drop-append_seam}
-use borrow.Author.Tests.{le-leb, lt-leb}
+use Rattle.std.proofs.Common.{◌≡◌, refl, ap, List, [], ◌∷◌, ◌++◌, ℕ, zero, suc, ◌≤◌, ◌<◌, arith, length, take, drop, length-append, length-drop, le-leb}
+use Rattle.std.proofs.Math.Seq.{take-append_seam, drop-append_seam}
+use borrow.Author.Tests.{lt-leb}
 use Rattle.settings.specs.Runs.{Item, holds, broken, first_items, items}
 
 -- a run has no more items than bytes

@@ -1,9 +1,5 @@
 -- Other settings are stepped over: one of another type changes nothing of what an encoding asks for. Assumes nothing.
-use mathlib.Core.Path.{◌≡◌, refl, sym, ap, ◌∙◌}
-use mathlib.Core.Bool.{true}
-use mathlib.Core.List.{List, [], ◌∷◌, ◌++◌}
-use Prim.Native.Nat.{ℕ}
-use borrow.Author.Tests.{ne_eqb}
+use Rattle.std.proofs.Common.{◌≡◌, refl, sym, ap, ◌∙◌, true, List, [], ◌∷◌, ◌++◌, ℕ, ne_eqb}
 use Rattle.logic.specs.Lists.{every}
 use Rattle.logic.proofs.Members.{every-all, all-every}
 use Rattle.logic.proofs.Appends.{all_append}

@@ -1,21 +1,14 @@
 -- The flows of a run fulfil what it asks for in bytes and microseconds, and are numbered from 1; nothing about them is left open.
 -- Assumes nothing.
-use mathlib.Core.Path.{◌≡◌, refl, sym, ap, ap₂, subst, ◌∙◌}
-use mathlib.Core.Bool.{true}
-use mathlib.Core.Logic.{◌↔◌}
-use mathlib.Core.List.{List, [], ◌∷◌, ◌++◌, map}
-use Prim.Native.Nat.{ℕ, zero, suc, ◌+◌, ◌*◌, ◌/◌, ◌%◌, ◌≤◌, ◌<◌}
-use native.Mathlib.Nat.{mod-lt, div-add-mod', mul-le-mul_right, le_of_mul-le-mul_right, div-eq_of_lt-le, div-eq_of_eq-mul_left}
-use native.Mathlib.Omega.{arith}
-use lib.Dec.{ltb, eqb}
-use lib.ListN.{length}
-use borrow.Author.Tests.{ltb-true, eqb-true, eqb-false}
+use Rattle.std.proofs.Common.{◌≡◌, refl, sym, ap, ap₂, subst, ◌∙◌, true, ◌↔◌, List, [], ◌∷◌, ◌++◌, map, ℕ, zero, suc, ◌+◌, ◌*◌, ◌/◌, ◌%◌, ◌≤◌, ◌<◌, mod-lt, div-add-mod', mul-le-mul_right, le_of_mul-le-mul_right, arith, ltb, eqb, length, ltb-true, eqb-true}
+use Rattle.std.proofs.Math.Nat.{div-eq_of_lt-le, div-eq_of_eq-mul_left}
+use borrow.Author.Tests.{eqb-false}
 use Rattle.logic.specs.Lists.{All}
 use Rattle.logic.proofs.Tests.{by_test, by_lt, and_both}
 use Rattle.flows.specs.declared.flow.Flow.{Flow}
 use Rattle.flows.specs.Flows.{fields_of, flow_with}
 use Rattle.refusals.specs.declared.Refusal.TheVariants.{NotWhole, NoChannel}
-use Rattle.refusals.specs.declared.Checked.TheVariants.{Passed}
+use Rattle.refusals.specs.Results.{Passed}
 use Rattle.refusals.proofs.Chains.{unless_passed}
 use Rattle.settings.specs.declared.Call.{Call}
 use Rattle.settings.specs.Runs.{Item, items}

@@ -2,8 +2,7 @@
 -- four repeated or of wrong length, 24 one of the four missing, 25 interval not whole, then 3 to 6 and 9." Assumes nothing.
 use Rattle.std.specs.Prelude.{◌&&◌, List, map, ℕ, ltb, length}
 use Rattle.refusals.specs.declared.Refusal.TheVariants.{Encoding, MissingSetting, NotWhole, NoChannel}
-use Rattle.refusals.specs.declared.Checked.{Checked}
-use Rattle.refusals.specs.declared.Written.{Written}
+use Rattle.refusals.specs.Results.{Checked, Written}
 use Rattle.refusals.specs.Tests.{◌⟫◌, unless, lowest}
 use Rattle.refusals.specs.Answers.{answer, written}
 use Rattle.lists.specs.Lists.{list_of}

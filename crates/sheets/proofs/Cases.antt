@@ -7,8 +7,8 @@ use Rattle.logic.specs.Lists.{All}
 use Rattle.fields.specs.Records.{packed, values_of}
 use Rattle.flows.specs.Flows.{keeps, flow_of, packed_flow}
 use Rattle.refusals.specs.declared.Refusal.TheVariants.{Length, Head, Count, Field, Room, Line}
-use Rattle.refusals.specs.declared.Written.{Written}
-use Rattle.refusals.specs.declared.Written.TheVariants.{Bytes, Refused}
+use Rattle.std.proofs.Common.{Ok, Err}
+use Rattle.refusals.specs.Results.{Written}
 use Rattle.refusals.specs.Tests.{lowest}
 use Rattle.refusals.specs.Answers.{answer, written}
 use Rattle.words.specs.Characters.{bytes}
@@ -57,48 +57,48 @@ room n = replicate n 0xA5
 -- a sheet, the answer for a room of 24 bytes, and what then stands at the room's front
 abbrev sheets : List (List ℕ × Written × List ℕ)
 sheets =
-    (sheet_a, Bytes 22, list_a)
+    (sheet_a, Ok 22, list_a)
     -- no line, and too many
-    ∷ (bytes "", Refused Count, [])
-    ∷ (times 129 good, Refused Count, [])
+    ∷ (bytes "", Err Count, [])
+    ∷ (times 129 good, Err Count, [])
     -- intervals 4,096 and 4,097, jitters 3 and 4 at interval 4
-    ∷ (bytes "flow 1 size 1 every 4096 jitter 0\n", Bytes 10, 0x11 ∷ 0x00 ∷ 0x00 ∷ 0x01 ∷ 0x00 ∷ 0x40 ∷ 0x06 ∷ 0x00 ∷ 0x00 ∷ 0x00 ∷ [])
-    ∷ (bytes "flow 1 size 1 every 4097 jitter 0\n", Refused (Field 1), [])
-    ∷ (bytes "flow 1 size 1 every 4 jitter 3\n", Bytes 10, 0x11 ∷ 0x00 ∷ 0x00 ∷ 0x01 ∷ 0x00 ∷ 0x40 ∷ 0x04 ∷ 0x00 ∷ 0x80 ∷ 0x03 ∷ [])
-    ∷ (good ++ bytes "flow 2 size 1 every 4 jitter 4\n", Refused (Field 2), [])
+    ∷ (bytes "flow 1 size 1 every 4096 jitter 0\n", Ok 10, 0x11 ∷ 0x00 ∷ 0x00 ∷ 0x01 ∷ 0x00 ∷ 0x40 ∷ 0x06 ∷ 0x00 ∷ 0x00 ∷ 0x00 ∷ [])
+    ∷ (bytes "flow 1 size 1 every 4097 jitter 0\n", Err (Field 1), [])
+    ∷ (bytes "flow 1 size 1 every 4 jitter 3\n", Ok 10, 0x11 ∷ 0x00 ∷ 0x00 ∷ 0x01 ∷ 0x00 ∷ 0x40 ∷ 0x04 ∷ 0x00 ∷ 0x80 ∷ 0x03 ∷ [])
+    ∷ (good ++ bytes "flow 2 size 1 every 4 jitter 4\n", Err (Field 2), [])
     -- another word, a tab, a space at the end, a carriage return, a second space, an empty line, a missing line feed
-    ∷ (bad, Refused (Line 1), [])
-    ∷ (bytes "flow\t1 size 1 every 4 jitter 2\n", Refused (Line 1), [])
-    ∷ (bytes "flow 1 size 1 every 4 jitter 2 \n", Refused (Line 1), [])
-    ∷ (bytes "flow 1 size 1 every 4 jitter 2\r\n", Refused (Line 1), [])
-    ∷ (bytes "flow  1 size 1 every 4 jitter 2\n", Refused (Line 1), [])
-    ∷ (good ++ (bytes "\n" ++ good), Refused (Line 2), [])
-    ∷ (good ++ bytes "flow 2 size 1 every 4 jitter 2", Refused (Line 2), [])
+    ∷ (bad, Err (Line 1), [])
+    ∷ (bytes "flow\t1 size 1 every 4 jitter 2\n", Err (Line 1), [])
+    ∷ (bytes "flow 1 size 1 every 4 jitter 2 \n", Err (Line 1), [])
+    ∷ (bytes "flow 1 size 1 every 4 jitter 2\r\n", Err (Line 1), [])
+    ∷ (bytes "flow  1 size 1 every 4 jitter 2\n", Err (Line 1), [])
+    ∷ (good ++ (bytes "\n" ++ good), Err (Line 2), [])
+    ∷ (good ++ bytes "flow 2 size 1 every 4 jitter 2", Err (Line 2), [])
     -- a leading zero, five digits, no digit; "0" is of the form, and 9999 too
-    ∷ (bytes "flow 01 size 1 every 4 jitter 2\n", Refused (Line 1), [])
-    ∷ (bytes "flow 1 size 1 every 4 jitter 00\n", Refused (Line 1), [])
-    ∷ (bytes "flow 1 size 1 every 10000 jitter 2\n", Refused (Line 1), [])
-    ∷ (bytes "flow  size 1 every 4 jitter 2\n", Refused (Line 1), [])
-    ∷ (bytes "flow 0 size 0 every 9999 jitter 0\n", Refused (Field 1), [])
+    ∷ (bytes "flow 01 size 1 every 4 jitter 2\n", Err (Line 1), [])
+    ∷ (bytes "flow 1 size 1 every 4 jitter 00\n", Err (Line 1), [])
+    ∷ (bytes "flow 1 size 1 every 10000 jitter 2\n", Err (Line 1), [])
+    ∷ (bytes "flow  size 1 every 4 jitter 2\n", Err (Line 1), [])
+    ∷ (bytes "flow 0 size 0 every 9999 jitter 0\n", Err (Field 1), [])
     -- 20 before 3 and 4, 3 before 4, 4 before 9
-    ∷ (broken ++ (good ++ bad), Refused (Line 3), [])
-    ∷ (times 149 good ++ (bad ++ times 50 good), Refused (Line 150), [])
-    ∷ (times 129 broken, Refused Count, [])
-    ∷ (times 3 good ++ broken, Refused (Field 4), [])
-    ∷ (times 4 good, Refused Room, [])
+    ∷ (broken ++ (good ++ bad), Err (Line 3), [])
+    ∷ (times 149 good ++ (bad ++ times 50 good), Err (Line 150), [])
+    ∷ (times 129 broken, Err Count, [])
+    ∷ (times 3 good ++ broken, Err (Field 4), [])
+    ∷ (times 4 good, Err Room, [])
     ∷ []
 
 -- a list, the answer for a room of 95 bytes, and what then stands at the room's front
 abbrev lists : List (List ℕ × Written × List ℕ)
 lists =
-    (list_a, Bytes 93, sheet_a)
-    ∷ (0x11 ∷ 0x00 ∷ 0x00 ∷ [], Refused Length, [])
-    ∷ (0x21 ∷ 0x00 ∷ 0x00 ∷ 0x00 ∷ [], Refused Head, [])
-    ∷ (0x11 ∷ 0x00 ∷ 0x00 ∷ 0x00 ∷ [], Refused Count, [])
-    ∷ (list_a ++ (0x00 ∷ []), Refused Length, [])
+    (list_a, Ok 93, sheet_a)
+    ∷ (0x11 ∷ 0x00 ∷ 0x00 ∷ [], Err Length, [])
+    ∷ (0x21 ∷ 0x00 ∷ 0x00 ∷ 0x00 ∷ [], Err Head, [])
+    ∷ (0x11 ∷ 0x00 ∷ 0x00 ∷ 0x00 ∷ [], Err Count, [])
+    ∷ (list_a ++ (0x00 ∷ []), Err Length, [])
     -- a jitter of 4 at interval 4, and four lines
-    ∷ (0x11 ∷ 0x00 ∷ 0x00 ∷ 0x01 ∷ 0x00 ∷ 0x40 ∷ 0x04 ∷ 0x00 ∷ 0x80 ∷ 0x04 ∷ [], Refused (Field 1), [])
-    ∷ (0x11 ∷ 0x00 ∷ 0x00 ∷ 0x04 ∷ times 4 (0x00 ∷ 0x40 ∷ 0x04 ∷ 0x00 ∷ 0x80 ∷ 0x02 ∷ []), Refused Room, [])
+    ∷ (0x11 ∷ 0x00 ∷ 0x00 ∷ 0x01 ∷ 0x00 ∷ 0x40 ∷ 0x04 ∷ 0x00 ∷ 0x80 ∷ 0x04 ∷ [], Err (Field 1), [])
+    ∷ (0x11 ∷ 0x00 ∷ 0x00 ∷ 0x04 ∷ times 4 (0x00 ∷ 0x40 ∷ 0x04 ∷ 0x00 ∷ 0x80 ∷ 0x02 ∷ []), Err Room, [])
     ∷ []
 
 -- each way gives the answer that stands beside it, writes those bytes at the front and leaves the rest

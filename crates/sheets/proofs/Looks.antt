@@ -5,17 +5,15 @@ use mathlib.Core.List.{List, map}
 use Prim.Native.Nat.{ℕ, ◌+◌, ◌≤◌, ◌<◌}
 use native.Mathlib.Omega.{arith}
 use lib.ListN.{length, drop}
+use Rattle.std.proofs.Common.{Some, None}
 use Rattle.flows.specs.declared.flow.Flow.{Flow}
 use Rattle.flows.specs.Flows.{keeps}
 use Rattle.refusals.specs.declared.Refusal.TheVariants.{Field, Line as AtLine}
-use Rattle.refusals.specs.declared.Checked.{Checked}
-use Rattle.refusals.specs.declared.Checked.TheVariants.{Passed, Refused}
+use Rattle.refusals.specs.Results.{Checked, Passed, Refused}
 use Rattle.refusals.specs.Tests.{◌⟫◌, unless, lowest}
 use Rattle.refusals.proofs.Chains.{chain_passed}
 use Rattle.refusals.proofs.Lowest.{lowest-next, lowest-here, lowest-noted}
 use Rattle.lists.specs.Tests.{test4}
-use Rattle.sheets.specs.declared.line.Line.TheVariants.{Of, Bad}
-use Rattle.sheets.specs.declared.line.LineAt.{LineAt}
 use Rattle.sheets.specs.Readings.{of_form, readings, flows_in}
 use Rattle.sheets.specs.Reader.{line_at}
 use Rattle.sheets.specs.Tests.{test20}
@@ -44,26 +42,27 @@ module _ (s : List ℕ) (at n : ℕ) (rules : Checked) (look : LookAt s at n rul
         look.rules_left ∙ rw none (chain_passed rules),
       )
 
-  -- at a line, where x is read
-  module _ (x : LineAt) (g : x ≡ line_at at s) where
-    pub look-bad : at < length s → x.line ≡ Bad → test20 s ≡ Refused (AtLine (n + 1))
-    look-bad h b =
-        let bad = says_bad s at x g h b in
-        look.form_left ∙ rw bad.1 (lowest-here AtLine (n + 1) false (map of_form bad.0) refl)
+  -- at a bad line
+  pub look-bad : at < length s → None ≡ line_at at s → test20 s ≡ Refused (AtLine (n + 1))
+  look-bad h g =
+      let bad = says_bad s at h g in
+      look.form_left ∙ rw bad.1 (lowest-here AtLine (n + 1) false (map of_form bad.0) refl)
 
-    pub look-next : (f : Flow) (new : Checked) → x.line ≡ Of f → new ≡ (rules ⟫ unless (keeps f) (Field (n + 1))) → LookAt s x.end (n + 1) new
-    look-next f new o r =
-        let w = line-within s at x g f o in
-        let next = flows-next s at x g f o in
-        record {
-          inside = w.1;
-          few = omega (arith, w.0, look.few);
-          lines_left = omega (arith, look.lines_left, ap length next);
-          form_left =
-              look.form_left ∙ rw (says s at x g f o)
-              (lowest-next AtLine (n + 1) true (map of_form (readings (drop x.end s))) refl);
-          rules_left =
-              look.rules_left ∙ rw next
-              (lowest-noted Field (n + 1) (keeps f) (map keeps (flows_in (drop x.end s))) rules
-              ∙ ap (λ (a : Checked). a ⟫ lowest Field (n + 1 + 1) (map keeps (flows_in (drop x.end s)))) (sym r));
-        }
+  -- at a line of the flow f, with the place e behind it
+  pub look-next : (f : Flow) (e : ℕ) → Some (f, e) ≡ line_at at s → (new : Checked) → new ≡ (rules ⟫ unless (keeps f) (Field (n + 1)))
+      → LookAt s e (n + 1) new
+  look-next f e g new r =
+      let w = line-within s at f e g in
+      let next = flows-next s at f e g in
+      record {
+        inside = w.1;
+        few = omega (arith, w.0, look.few);
+        lines_left = omega (arith, look.lines_left, ap length next);
+        form_left =
+            look.form_left ∙ rw (says s at f e g)
+            (lowest-next AtLine (n + 1) true (map of_form (readings (drop e s))) refl);
+        rules_left =
+            look.rules_left ∙ rw next
+            (lowest-noted Field (n + 1) (keeps f) (map keeps (flows_in (drop e s))) rules
+            ∙ ap (λ (a : Checked). a ⟫ lowest Field (n + 1 + 1) (map keeps (flows_in (drop e s)))) (sym r));
+      }

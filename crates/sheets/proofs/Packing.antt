@@ -9,6 +9,7 @@ use lib.Seq.{sets, length-sets, take_at, drop_at}
 use Rattle.logic.specs.Lists.{All}
 use Rattle.logic.proofs.Rooms.{sets_between}
 use Rattle.fields.specs.declared.kind.Kind.TheVariants.{ListHead}
+use Rattle.std.proofs.Common.{Some}
 use Rattle.flows.specs.declared.flow.Flow.{Flow}
 use Rattle.fields.specs.Records.{room_after}
 use Rattle.flows.specs.Flows.{keeps}
@@ -18,8 +19,6 @@ use Rattle.words.proofs.Places.{put-fits}
 use Rattle.lists.specs.Lists.{head_fields, head, place, records, list_of, record_after}
 use Rattle.lists.proofs.RoundTrip.{length-records, length_list}
 use Rattle.lists.proofs.Writing.{head-written, records-none, record_next, list_written}
-use Rattle.sheets.specs.declared.line.Line.TheVariants.{Of}
-use Rattle.sheets.specs.declared.line.LineAt.{LineAt}
 use Rattle.sheets.specs.Readings.{flows_in}
 use Rattle.sheets.specs.Reader.{line_at}
 use Rattle.sheets.proofs.Walk.{flows-next, flows_done}
@@ -39,20 +38,20 @@ module _ (s before : List ℕ) (at i : ℕ) (list : List ℕ) (pack : PackAt s b
   pub pack_end : length s ≤ at → list ≡ sets before 4 (records (flows_in s))
   pack_end h = ap (sets list (place i)) (sym (ap records (flows_done s at h) ∙ records-none)) ∙ pack.writes
 
-  -- at a line, where x is read, with the flow f
-  pub pack-next : (x : LineAt) → x ≡ line_at at s → (f : Flow) → x.line ≡ Of f → (new : List ℕ) → length new ≡ length list → new ≡ record_after f i list
-      → PackAt s before x.end (i + 1) new
-  pack-next x g f o new l w =
-      let next = flows-next s at x g f o in
-      let size : length (records (flows_in (drop at s))) ≡ 6 + length (records (flows_in (drop x.end s))) =
-      ap (λ (fs : List Flow). length (records fs)) next ∙ length-records (f ∷ flows_in (drop x.end s)) ∙ omega (arith, length-records (flows_in (drop x.end s))) in
+  -- at a line of the flow f, with the place e behind it
+  pub pack-next : (f : Flow) (e : ℕ) → Some (f, e) ≡ line_at at s → (new : List ℕ) → length new ≡ length list → new ≡ record_after f i list
+      → PackAt s before e (i + 1) new
+  pack-next f e g new l w =
+      let next = flows-next s at f e g in
+      let size : length (records (flows_in (drop at s))) ≡ 6 + length (records (flows_in (drop e s))) =
+      ap (λ (fs : List Flow). length (records fs)) next ∙ length-records (f ∷ flows_in (drop e s)) ∙ omega (arith, length-records (flows_in (drop e s))) in
       let p = rw next at pack.kept in
       record {
         kept = p.1;
         room_left = omega (arith, size, pack.room_left);
         writes =
-            ap (λ (r : List ℕ). sets r (place (i + 1)) (records (flows_in (drop x.end s)))) w
-            ∙ record_next f (flows_in (drop x.end s)) i list (keeps_is f p.0) (omega (arith, size, pack.room_left))
+            ap (λ (r : List ℕ). sets r (place (i + 1)) (records (flows_in (drop e s)))) w
+            ∙ record_next f (flows_in (drop e s)) i list (keeps_is f p.0) (omega (arith, size, pack.room_left))
             ∙ ap (λ (fs : List Flow). sets list (place i) (records fs)) (sym next)
             ∙ pack.writes;
       }

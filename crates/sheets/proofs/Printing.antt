@@ -1,47 +1,29 @@
--- The lines of a list's flows written, one after another. Assumes nothing.
-use mathlib.Core.Path.{◌≡◌, ap, ◌∙◌}
-use mathlib.Core.List.{List, [], ◌∷◌, ◌++◌}
-use Prim.Native.Nat.{ℕ, suc, ◌+◌, ◌-◌, ◌≤◌, ◌<◌}
+-- The lines of a list's flows, one behind the other. Assumes nothing.
+use Rattle.std.proofs.Common.{◌≡◌, ℕ, zero, suc, ◌+◌, List, [], ◌++◌, sym, ap, ◌∙◌, arith}
+use mathlib.Core.List.{append_assoc, append-nil}
 use native.Mathlib.Numerals.{add-one}
-use native.Mathlib.Omega.{arith}
-use lib.ListN.{length, length-append}
-use lib.Seq.{sets}
-use Rattle.logic.proofs.Rooms.{sets_append}
 use Rattle.flows.specs.declared.flow.Flow.{Flow}
 use Rattle.lists.specs.Lists.{count, flow_at, flows_from, flows_of}
 use Rattle.sheets.specs.Texts.{line, text}
 use Rattle.sheets.proofs.Texts.{text-none, text_is}
 
--- what is left of n records at record i
-abbrev pub left : List ℕ → ℕ → ℕ → List Flow
-left l n i = flows_from l i (n - i)
+-- those of no record
+pub text_start : (l : List ℕ) → text (flows_from l 0 0) ≡ []
+unfolding flows_from
+text_start l = text-none
 
-pub left-all : (l : List ℕ) (n : ℕ) → left l n 0 ≡ flows_from l 0 n
-left-all l n = let e : n - 0 ≡ n = omega arith in rw e
+text_more : (l : List ℕ) (i n : ℕ) → text (flows_from l i (suc n)) ≡ text (flows_from l i n) ++ line (flow_at l (i + n))
+unfolding flows_from text
+text_more l i zero = let e : i + 0 ≡ i = omega arith in rw e (append-nil (line (flow_at l i)))
+text_more l i (suc n) =
+    let e : suc i + n ≡ i + suc n = omega arith in
+    ap (λ bs. line (flow_at l i) ++ bs) (rw e at (text_more l (suc i) n)) ∙ sym (append_assoc (line (flow_at l i)) (text (flows_from l (suc i) n)) (line (flow_at l (i + suc n))))
 
-module _ (l : List ℕ) (n i : ℕ) where
-  pub text_done : n ≤ i → text (left l n i) ≡ []
-  unfolding flows_from
-  text_done h = let e : n - i ≡ 0 = omega arith in ap text (rw (e, flows_from)) ∙ text-none
-
-  -- f is the flow of record i
-  module _ (f : Flow) (h : i < n) (q : f ≡ flow_at l i) where
-    text-next : text (left l n i) ≡ line f ++ text (left l n (i + 1))
-    unfolding flows_from
-    text-next =
-        let e : n - i ≡ suc (n - suc i) = omega arith in
-        let next : left l n i ≡ f ∷ left l n (i + 1) = rw (e, add-one, flows_from, q) in
-        ap text next ∙ text_is f (left l n (i + 1))
-
-    pub text_size : length (text (left l n i)) ≡ length (line f) + length (text (left l n (i + 1)))
-    text_size = ap length text-next ∙ length-append (line f) (text (left l n (i + 1)))
-
-    pub text-written : (room : List ℕ) (at : ℕ)
-        → sets room at (text (left l n i)) ≡ sets (sets room at (line f)) (at + length (line f)) (text (left l n (i + 1)))
-    text-written room at = ap (sets room at) text-next ∙ sets_append room at (line f) (text (left l n (i + 1)))
+-- those of a record more, whose flow is f
+pub text_next : (l : List ℕ) (n : ℕ) (f : Flow) → f ≡ flow_at l n → text (flows_from l 0 (n + 1)) ≡ text (flows_from l 0 n) ++ line f
+text_next l n f q = let e : 0 + n ≡ n = omega arith in rw (add-one, q) (rw e at (text_more l 0 n))
 
 -- the flows of as many records as the head says are the list's
-
 pub flows_of_lem : (l : List ℕ) (n : ℕ) → n ≡ count l → flows_from l 0 n ≡ flows_of l
 unfolding flows_of
 flows_of_lem l n e = ap (flows_from l 0) e

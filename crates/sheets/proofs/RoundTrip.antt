@@ -4,8 +4,8 @@ use mathlib.Core.List.{List, ◌++◌}
 use Prim.Native.Nat.{ℕ, ◌≤◌, ◌<◌}
 use native.Mathlib.Omega.{arith}
 use lib.ListN.{length, get_or, take, drop}
-use Rattle.refusals.specs.declared.Checked.TheVariants.{Passed}
-use Rattle.refusals.specs.declared.Written.TheVariants.{Bytes}
+use Rattle.std.proofs.Common.{Ok}
+use Rattle.refusals.specs.Results.{Passed}
 use Rattle.refusals.proofs.Rooms.{ends-written, written_front}
 use Rattle.lists.specs.Lists.{flows_of, list_of}
 use Rattle.lists.specs.Tests.{tests1to4}
@@ -44,9 +44,9 @@ list_sheet_list l b e =
 -- ---- on answers and rooms
 
 -- an accepted sheet, packed into one room and written from there into another that is long enough, is the same bytes
-pub sheet_comes_back : (s room room' : List ℕ) (k : ℕ) → list_answer s (length room) ≡ Bytes k → length s ≤ length room'
+pub sheet_comes_back : (s room room' : List ℕ) (k : ℕ) → list_answer s (length room) ≡ Ok k → length s ≤ length room'
     → let l = take k (room_of_list s room) in
-    (sheet_answer l (length room') ≡ Bytes (length s)) × (sheet_room l room' ≡ s ++ drop (length s) room')
+    (sheet_answer l (length room') ≡ Ok (length s)) × (sheet_room l room' ≡ s ++ drop (length s) room')
 sheet_comes_back s room room' k e h =
     let front = written_front (sheet_tests s) (list_of (flows_in s)) room k e in
     let back = sheet_list_sheet s front.0 in
@@ -54,9 +54,9 @@ sheet_comes_back s room room' k e h =
     (let ends = ends-written Passed s room' (length s) (s ++ drop (length s) room') refl h refl refl in (sym ends.0, sym ends.1))
 
 -- an accepted packed list, written as a sheet into one room and packed from there into another that is long enough, is the same bytes
-pub list_comes_back : (l room room' : List ℕ) (k : ℕ) → ((i : ℕ) → get_or l i 0 < 256) → sheet_answer l (length room) ≡ Bytes k → length l ≤ length room'
+pub list_comes_back : (l room room' : List ℕ) (k : ℕ) → ((i : ℕ) → get_or l i 0 < 256) → sheet_answer l (length room) ≡ Ok k → length l ≤ length room'
     → let s = take k (sheet_room l room) in
-    (list_answer s (length room') ≡ Bytes (length l)) × (room_of_list s room' ≡ l ++ drop (length l) room')
+    (list_answer s (length room') ≡ Ok (length l)) × (room_of_list s room' ≡ l ++ drop (length l) room')
 list_comes_back l room room' k b e h =
     let front = written_front (tests1to4 l) (text (flows_of l)) room k e in
     let back = list_sheet_list l b front.0 in

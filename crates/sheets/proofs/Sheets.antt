@@ -6,15 +6,14 @@ use mathlib.Core.List.{List, [], ◌∷◌, ◌++◌, map}
 use Prim.Native.Nat.{ℕ}
 use native.Mathlib.Omega.{arith}
 use Rattle.logic.specs.Lists.{All}
+use Rattle.std.proofs.Common.{Option, Some, None}
 use Rattle.flows.specs.declared.flow.Flow.{Flow}
 use Rattle.flows.specs.Flows.{keeps}
 use Rattle.flows.proofs.Flows.{keeps_is}
 use Rattle.refusals.specs.declared.Refusal.TheVariants.{Line as AtLine}
-use Rattle.refusals.specs.declared.Checked.TheVariants.{Passed}
+use Rattle.refusals.specs.Results.{Passed}
 use Rattle.refusals.specs.Tests.{lowest}
 use Rattle.refusals.proofs.Lowest.{Pass, pass_lowest, lowest_pass}
-use Rattle.sheets.specs.declared.line.Line.{Line}
-use Rattle.sheets.specs.declared.line.Line.TheVariants.{Of, Bad}
 use Rattle.sheets.specs.Texts.{line, text}
 use Rattle.sheets.specs.Form.{SheetOf}
 use Rattle.sheets.specs.Lines.{lines}
@@ -28,20 +27,20 @@ use Rattle.sheets.proofs.Walk.{reads_first}
 
 -- ---- what a sheet of flows says
 
-says_flows : (fs : List Flow) (s : List ℕ) → SheetOf fs s → readings s ≡ map Of fs
+says_flows : (fs : List Flow) (s : List ℕ) → SheetOf fs s → readings s ≡ map Some fs
 says_flows [] s e = ap readings e ∙ readings-none
 says_flows (f ∷ fs) s h =
     let is = line_of_is f h.0 h.2 in
     let rest : List ℕ = h.1 in
     ap readings (h.4 ∙ ap (λ (l : List ℕ). l ++ rest) is.1)
     ∙ reads_first f rest is.0
-    ∙ ap (λ (xs : List Line). Of f ∷ xs) (says_flows fs rest h.3)
+    ∙ ap (λ (xs : List (Option Flow)). Some f ∷ xs) (says_flows fs rest h.3)
 
-all-formed : (fs : List Flow) → Pass (map of_form (map Of fs))
+all-formed : (fs : List Flow) → Pass (map of_form (map Some fs))
 all-formed [] = tt
 all-formed (f ∷ fs) = (refl, all-formed fs)
 
-flows_again : (fs : List Flow) → map flow_in (map Of fs) ≡ fs
+flows_again : (fs : List Flow) → map flow_in (map Some fs) ≡ fs
 flows_again [] = refl
 flows_again (f ∷ fs) = ap (λ (gs : List Flow). f ∷ gs) (flows_again fs)
 
@@ -49,15 +48,15 @@ pub sheet_passes : (fs : List Flow) (s : List ℕ) → SheetOf fs s → (test20 
 unfolding test20
 sheet_passes fs s h =
     let says = says_flows fs s h in (
-      ap (λ (xs : List Line). lowest AtLine 1 (map of_form xs)) says ∙ pass_lowest AtLine 1 (map of_form (map Of fs)) (all-formed fs),
+      ap (λ (xs : List (Option Flow)). lowest AtLine 1 (map of_form xs)) says ∙ pass_lowest AtLine 1 (map of_form (map Some fs)) (all-formed fs),
       flows_is s ∙ ap (map flow_in) says ∙ flows_again fs,
     )
 
 -- ---- what passes is a sheet of its flows
 
-is_of : (x : Line) → of_form x ≡ true → x ≡ Of (flow_in x)
-is_of (Of f) e = refl
-is_of Bad e = absurd (true≢false (sym e))
+is_of : (x : Option Flow) → of_form x ≡ true → x ≡ Some (flow_in x)
+is_of (Some f) e = refl
+is_of None e = absurd (true≢false (sym e))
 
 lines_sheet : (ls : List (List ℕ)) → Pass (map of_form (map read ls)) → SheetOf (map flow_in (map read ls)) (joined ls)
 unfolding joined

@@ -6,14 +6,13 @@ use Prim.Native.Nat.{ℕ, ◌≤◌}
 use native.Mathlib.Omega.{arith}
 use lib.ListN.{length}
 use Rattle.refusals.specs.declared.Refusal.{Refusal}
-use Rattle.refusals.specs.declared.Checked.{Checked}
-use Rattle.refusals.specs.declared.Checked.TheVariants.{Passed, Refused}
+use Rattle.std.proofs.Common.{Ok, Err}
+use Rattle.refusals.specs.Results.{Checked, Passed, Refused}
 use Rattle.refusals.proofs.Chains.{both_passed}
 use Rattle.logic.specs.Lists.{All}
 use Rattle.flows.specs.Flows.{keeps}
 use Rattle.lists.specs.Tests.{test3, test4}
 use Rattle.lists.proofs.Verdicts.{few_passed, kept_exactly}
-use Rattle.sheets.specs.declared.survey.Survey.TheVariants.{Lines, Refused as Faulty}
 use Rattle.sheets.specs.Readings.{flows_in}
 use Rattle.sheets.specs.Tests.{test20, sheet_tests, counted, survey_of}
 use Rattle.sheets.specs.Reader.{Recorded}
@@ -36,27 +35,27 @@ module _ (s : List ℕ) where
 
   -- ---- what is found, both ways
 
-  pub found-refused : (before after : List ℕ) (r : Refusal) → sheet_tests s ≡ Refused r → (Faulty r ≡ survey_of s) × Recorded s before after
+  pub found-refused : (before after : List ℕ) (r : Refusal) → sheet_tests s ≡ Refused r → (Err r ≡ survey_of s) × Recorded s before after
   unfolding survey_of
   found-refused before after r e = (rw e, λ p. let z : ◌≡◌ {A = ℕ} 0 1 = cc in absurd (omega arith))
 
-  pub found-lines : (n : ℕ) → sheet_tests s ≡ Passed → n ≡ length (flows_in s) → Lines n ≡ survey_of s
+  pub found-lines : (n : ℕ) → sheet_tests s ≡ Passed → n ≡ length (flows_in s) → Ok n ≡ survey_of s
   unfolding survey_of
-  found-lines n e q = rw e (ap Lines q)
+  found-lines n e q = rw e (ap Ok q)
 
-  refused_by : (c : Checked) (n : ℕ) (r : Refusal) → counted c n ≡ Faulty r → c ≡ Refused r
-  refused_by (Refused x) n r e = let q : x ≡ r = cc in ap Refused q
-  refused_by Passed n r e = let z : ◌≡◌ {A = ℕ} 0 1 = cc in absurd (omega arith)
+  refused_by : (c : Checked) (n : ℕ) (r : Refusal) → counted c n ≡ Err r → c ≡ Refused r
+  refused_by (Err x) n r e = let q : x ≡ r = cc in ap Refused q
+  refused_by (Ok tt) n r e = let z : ◌≡◌ {A = ℕ} 0 1 = cc in absurd (omega arith)
 
-  lines_by : (c : Checked) (n k : ℕ) → counted c n ≡ Lines k → (c ≡ Passed) × (k ≡ n)
-  lines_by Passed n k e = let q : k ≡ n = cc in (refl, q)
-  lines_by (Refused x) n k e = let z : ◌≡◌ {A = ℕ} 0 1 = cc in absurd (omega arith)
+  lines_by : (c : Checked) (n k : ℕ) → counted c n ≡ Ok k → (c ≡ Passed) × (k ≡ n)
+  lines_by (Ok tt) n k e = let q : k ≡ n = cc in (refl, q)
+  lines_by (Err x) n k e = let z : ◌≡◌ {A = ℕ} 0 1 = cc in absurd (omega arith)
 
-  pub refused-found : (r : Refusal) → survey_of s ≡ Faulty r → sheet_tests s ≡ Refused r
+  pub refused-found : (r : Refusal) → survey_of s ≡ Err r → sheet_tests s ≡ Refused r
   unfolding survey_of
   refused-found r e = refused_by (sheet_tests s) (length (flows_in s)) r e
 
-  pub lines-found : (n : ℕ) → survey_of s ≡ Lines n → (sheet_tests s ≡ Passed) × (n ≡ length (flows_in s))
+  pub lines-found : (n : ℕ) → survey_of s ≡ Ok n → (sheet_tests s ≡ Passed) × (n ≡ length (flows_in s))
   unfolding survey_of
   lines-found n e = lines_by (sheet_tests s) (length (flows_in s)) n e
 

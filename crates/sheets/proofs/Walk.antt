@@ -2,15 +2,13 @@
 use mathlib.Core.Path.{◌≡◌, refl, sym, ap, ap₂, ◌∙◌}
 use mathlib.Core.Bool.{true}
 use mathlib.Core.List.{List, [], ◌∷◌, ◌++◌, append_assoc, map}
-use Prim.Native.Nat.{ℕ, ◌≤◌, ◌<◌}
+use Prim.Native.Nat.{ℕ, ◌+◌, ◌≤◌, ◌<◌}
 use native.Mathlib.Omega.{arith}
 use lib.ListN.{length, drop, drop_of_length-le, length-drop, length-append}
+use Rattle.std.proofs.Common.{Option, Some, None}
 use Rattle.flows.specs.declared.flow.Flow.{Flow}
 use Rattle.words.specs.Decimals.{decimal}
 use Rattle.words.proofs.Decimals.{decimal-digits}
-use Rattle.sheets.specs.declared.line.Line.{Line}
-use Rattle.sheets.specs.declared.line.Line.TheVariants.{Of, Bad}
-use Rattle.sheets.specs.declared.line.LineAt.{LineAt}
 use Rattle.sheets.specs.Texts.{flow, size, every, jitter, feed, piece, line}
 use Rattle.sheets.specs.Lines.{lines}
 use Rattle.sheets.specs.Readings.{flow_in, read, readings, flows_in}
@@ -39,9 +37,9 @@ line_first f s =
     (unbroken_append p₃ _ (unbroken_piece every f.interval refl) (unbroken_piece jitter f.jitter refl)))))
 
 -- and is read first
-pub reads_first : (f : Flow) (s : List ℕ) → Short f → readings (line f ++ s) ≡ Of f ∷ readings s
+pub reads_first : (f : Flow) (s : List ℕ) → Short f → readings (line f ++ s) ≡ Some f ∷ readings s
 reads_first f s h =
-    readings_is (line f ++ s) ∙ ap (map read) (line_first f s) ∙ ap₂ (λ (x : Line) (xs : List Line). x ∷ xs) (read-line f h) (sym (readings_is s))
+    readings_is (line f ++ s) ∙ ap (map read) (line_first f s) ∙ ap₂ (λ (x : Option Flow) (xs : List (Option Flow)). x ∷ xs) (read-line f h) (sym (readings_is s))
 
 -- ---- the end of the sheet
 
@@ -54,36 +52,35 @@ module _ (s : List ℕ) (at : ℕ) (h : length s ≤ at) where
 
 -- ---- a line of it
 
-is_bad : (y : Line) → ((f : Flow) → y ≡ Of f → ⊥) → y ≡ Bad
-is_bad (Of f) n = absurd (n f refl)
-is_bad Bad n = refl
+is_bad : (y : Option Flow) → ((f : Flow) → y ≡ Some f → ⊥) → y ≡ None
+is_bad (Some f) n = absurd (n f refl)
+is_bad None n = refl
 
--- x is what the code reads there
-module _ (s : List ℕ) (at : ℕ) (x : LineAt) (g : x ≡ line_at at s) where
-  -- a line of the form
-  module _ (f : Flow) (o : x.line ≡ Of f) where
-    stands : Short f × (x.end ≤ length s) × (drop at s ≡ line f ++ drop x.end s)
-    stands = rw g (line_at-line at s f (rw g at o))
+module _ (s : List ℕ) (at : ℕ) where
+  -- a line of the form, as the code reads it
+  module _ (f : Flow) (e : ℕ) (g : Some (f, e) ≡ line_at at s) where
+    stands : Short f × (e ≤ length s) × (drop at s ≡ line f ++ drop e s)
+    stands = line_at-line at s f e (sym g)
 
-    pub line-within : (at < x.end) × (x.end ≤ length s)
+    pub line-within : (at < e) × (e ≤ length s)
     line-within =
-        let sum = ap length stands.2 ∙ length-append (line f) (drop x.end s) in
-        (omega (arith, sum, stands.1, length-line f, length-drop at s, length-drop x.end s), stands.1)
+        let sum = ap length stands.2 ∙ length-append (line f) (drop e s) in
+        (omega (arith, sum, stands.1, length-line f, length-drop at s, length-drop e s), stands.1)
 
-    pub says : readings (drop at s) ≡ Of f ∷ readings (drop x.end s)
-    says = ap readings stands.2 ∙ reads_first f (drop x.end s) stands.0
+    pub says : readings (drop at s) ≡ Some f ∷ readings (drop e s)
+    says = ap readings stands.2 ∙ reads_first f (drop e s) stands.0
 
-    pub flows-next : flows_in (drop at s) ≡ f ∷ flows_in (drop x.end s)
-    flows-next = flows_is (drop at s) ∙ ap (map flow_in) says ∙ ap (λ (fs : List Flow). f ∷ fs) (sym (flows_is (drop x.end s)))
+    pub flows-next : flows_in (drop at s) ≡ f ∷ flows_in (drop e s)
+    flows-next = flows_is (drop at s) ∙ ap (map flow_in) says ∙ ap (λ (fs : List Flow). f ∷ fs) (sym (flows_is (drop e s)))
 
   -- a line that is not
-  pub says_bad : at < length s → x.line ≡ Bad → (rest : List Line) × (readings (drop at s) ≡ Bad ∷ rest)
-  says_bad h b =
+  pub says_bad : at < length s → None ≡ line_at at s → (rest : List (Option Flow)) × (readings (drop at s) ≡ None ∷ rest)
+  says_bad h g =
       let first = lines_some (drop at s) (omega (arith, length-drop at s)) in
       let l : List ℕ = first.0 in
       let rest : List (List ℕ) = first.1 in
-      let bad : read l ≡ Bad = is_bad (read l) (λ f e.
+      let bad : read l ≡ None = is_bad (read l) (λ f e.
       let is = read_is_line l f e in
       let good = line_at_reads at s (joined rest) f is.0 (first.3 ∙ ap (λ (y : List ℕ). y ++ joined rest) is.1) in
-      never ⊥ f (sym b ∙ ap (λ (y : LineAt). y.line) (g ∙ good))) in
-      (map read rest, readings_is (drop at s) ∙ ap (map read) first.2 ∙ ap (λ (y : Line). y ∷ map read rest) bad)
+      never ⊥ (f, at + length (line f)) (g ∙ good)) in
+      (map read rest, readings_is (drop at s) ∙ ap (map read) first.2 ∙ ap (λ (y : Option Flow). y ∷ map read rest) bad)

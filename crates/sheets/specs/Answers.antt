@@ -1,6 +1,6 @@
 -- The answer and the room afterwards, sheet to list and list to sheet. Assumes nothing.
 use Rattle.std.specs.Prelude.{ℕ, List}
-use Rattle.refusals.specs.declared.Written.{Written}
+use Rattle.refusals.specs.Results.{Written}
 use Rattle.refusals.specs.Answers.{answer, written}
 use Rattle.lists.specs.Lists.{flows_of, list_of}
 use Rattle.lists.specs.Tests.{tests1to4}

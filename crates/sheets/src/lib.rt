@@ -4,9 +4,5 @@
 #![tactic(auto)]
 
 mod form;
-mod line;
-mod survey;
 
 pub use form::{EVERY, FEED, FLOW, JITTER, SIZE};
-pub use line::{Line, LineAt};
-pub use survey::Survey;

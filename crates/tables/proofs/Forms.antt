@@ -9,7 +9,7 @@ use borrow.Author.Tests.{le-leb, eq-eqb, ne_eqb, leb-true, eqb-true}
 use Rattle.logic.specs.Numbers.{among}
 use Rattle.logic.proofs.Tests.{by_test, and_both, both_and, among_both}
 use Rattle.refusals.specs.declared.Refusal.TheVariants.{TableForm}
-use Rattle.refusals.specs.declared.Checked.TheVariants.{Passed}
+use Rattle.refusals.specs.Results.{Passed}
 use Rattle.refusals.specs.Tests.{◌⟫◌, unless}
 use Rattle.refusals.proofs.Chains.{both_passed, unless_passed}
 use Rattle.tables.specs.Tables.{head_of, count, place, grants_of}
@@ -19,18 +19,6 @@ use Rattle.tables.specs.Parts.{whole, record_tests}
 -- ---- the head
 
 module _ (t : List ℕ) where
-  pub headed_edition : (get_or (head_of t) 0 0 ≡ 1 → ⊥) → headed t ≡ false
-  unfolding headed
-  headed_edition e = rw (ne_eqb (get_or (head_of t) 0 0) 1 e)
-
-  pub headed_kind : get_or (head_of t) 0 0 ≡ 1 → (get_or (head_of t) 1 0 ≡ 2 → ⊥) → headed t ≡ false
-  unfolding headed
-  headed_kind d e = rw (eq-eqb (get_or (head_of t) 0 0) 1 d, ne_eqb (get_or (head_of t) 1 0) 2 e)
-
-  pub headed_spare : get_or (head_of t) 0 0 ≡ 1 → get_or (head_of t) 1 0 ≡ 2 → headed t ≡ eqb (get_or (head_of t) 2 0) 0
-  unfolding headed
-  headed_spare d e = rw (eq-eqb (get_or (head_of t) 0 0) 1 d, eq-eqb (get_or (head_of t) 1 0) 2 e)
-
   pub headed_is : headed t ≡ true → (get_or (head_of t) 0 0 ≡ 1) × (get_or (head_of t) 1 0 ≡ 2) × (get_or (head_of t) 2 0 ≡ 0)
   unfolding headed
   headed_is h =
@@ -68,9 +56,6 @@ module _ (t : List ℕ) where
   pub whole_but_length : 8 ≤ length t → headed t ≡ true → 1 ≤ count t → count t ≤ 1024 → whole t ≡ eqb (length t) (place (count t))
   unfolding whole
   whole_but_length l h c d = rw (le-leb 8 (length t) l, h, le-leb 1 (count t) c, le-leb (count t) 1024 d)
-
-  pub not-whole : (Whole t → ⊥) → false ≡ whole t
-  not-whole n = by_test (whole t) (λ e. absurd (n (whole_is e))) sym
 
   formed_parts : formed t ≡ whole t && spared t 0 (count t)
   unfolding formed whole

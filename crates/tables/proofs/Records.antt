@@ -1,6 +1,6 @@
 -- A record of a table, read and written at its place. Assumes nothing.
 use mathlib.Core.Path.{◌≡◌, refl, sym}
-use mathlib.Core.List.{List, [], ◌∷◌, ◌++◌}
+use mathlib.Core.List.{List, [], ◌∷◌}
 use Prim.Native.Nat.{ℕ, ◌+◌, ◌≤◌, ◌<◌}
 use native.Mathlib.Omega.{arith}
 use lib.ListN.{length, get_or, take, drop, replicate, length-drop}
@@ -9,28 +9,13 @@ use borrow.Author.Tests.{le-leb}
 use Rattle.logic.proofs.Tests.{by_lt}
 use Rattle.logic.proofs.Indices.{length_from, entry_is}
 use Rattle.fields.specs.declared.kind.Kind.TheVariants.{TableHead, TableRecord}
-use Rattle.fields.specs.declared.record.Stored.{Stored}
-use Rattle.fields.specs.declared.record.Stored.TheVariants.{Short}
 use Rattle.fields.specs.Packed.{Fit}
-use Rattle.fields.specs.Records.{values_of, stored, room_after}
+use Rattle.fields.specs.Records.{values_of}
 use Rattle.fields.proofs.Records.{values_short, values_fit}
-use Rattle.fields.proofs.Places.{ends_beyond, ends_part}
 use Rattle.tables.specs.declared.packed.Grant.{Grant}
-use Rattle.tables.specs.Tables.{head_of, count, place, values_at, grant_at, grants_from, grants_of, fields_of, record_stored, record_after}
+use Rattle.tables.specs.Tables.{head_of, count, place, values_at, grant_at, grants_from, grants_of}
 
 -- ---- reading
-
-pub values_beyond : (t : List ℕ) (i : ℕ) → length t < place i + 5 → replicate 6 0 ≡ values_at t i
-unfolding values_at
-values_beyond t i h = sym (values_short TableRecord (drop (place i) t) (simp length-drop (omega arith)))
-
--- and where it is there, its n bytes, which are five, tell its values
-pub values_there : (t : List ℕ) (i n : ℕ) → place i + 5 ≤ length t → n ≡ 5 → values_of TableRecord (take n (drop (place i) t)) ≡ values_at t i
-unfolding values_at values_of
-values_there t i n h e =
-    let s = drop (place i) t in
-    let l : 5 ≤ length s = simp length-drop (omega arith) in
-    rw (e, length-take-le 5 s l, take-take 5 5 s (omega arith), le-leb 5 (length s) l)
 
 second : (vs : List ℕ) → Fit (10 ∷ 12 ∷ 12 ∷ 6 ∷ 0 ∷ 0 ∷ []) vs → get_or vs 1 0 < 4096
 second [] f = elim f [ ]
@@ -68,16 +53,3 @@ length-grants t = length_from (grant_at t) (grants_from t) (λ i. refl) (λ i n.
 pub grant_is : (t : List ℕ) (d : Grant) (i : ℕ) (g : Grant) → i < count t → g ≡ grant_at t i → g ≡ get_or (grants_of t) i d
 unfolding grants_from grants_of
 grant_is t d = entry_is (grant_at t) (grants_from t) (λ i. refl) (λ i n. refl) d (count t)
-
--- ---- writing
-
-module _ (g : Grant) (i : ℕ) (room : List ℕ) where
-  pub record_beyond : length room < place i + 5 → (Short ≡ record_stored g i (length room)) × (room ≡ record_after g i room)
-  unfolding record_stored record_after
-  record_beyond h = ends_beyond TableRecord (place i) (fields_of g) room (omega arith)
-
-  pub record_part : place i + 5 ≤ length room → (n : ℕ) → n ≡ 5 → (a : Stored) (ys : List ℕ) → let part = take n (drop (place i) room) in
-      a ≡ stored TableRecord (fields_of g) (length part) → ys ≡ room_after TableRecord (fields_of g) part
-      → (a ≡ record_stored g i (length room)) × (take (place i) room ++ (ys ++ drop n (drop (place i) room)) ≡ record_after g i room)
-  unfolding record_stored record_after
-  record_part = ends_part TableRecord (place i) (fields_of g) room

@@ -2,7 +2,7 @@
 use Rattle.std.specs.Prelude.{Bool, true, ◌&&◌, List, [], ℕ, zero, suc, leb, ltb, eqb, length, get_or}
 use Rattle.logic.specs.Numbers.{among}
 use Rattle.refusals.specs.declared.Refusal.TheVariants.{TableForm, NotRising}
-use Rattle.refusals.specs.declared.Checked.{Checked}
+use Rattle.refusals.specs.Results.{Checked}
 use Rattle.refusals.specs.Tests.{◌⟫◌, unless, lowest, against, after}
 use Rattle.tables.specs.declared.packed.Grant.{Grant}
 use Rattle.tables.specs.Tables.{head_of, count, place, spare_at, grants_of}

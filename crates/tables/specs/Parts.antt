@@ -2,7 +2,7 @@
 use Rattle.std.specs.Prelude.{Bool, ◌&&◌, List, ℕ, leb, eqb, length}
 use Rattle.logic.specs.Numbers.{among}
 use Rattle.refusals.specs.declared.Refusal.TheVariants.{TableForm}
-use Rattle.refusals.specs.declared.Checked.{Checked}
+use Rattle.refusals.specs.Results.{Checked}
 use Rattle.refusals.specs.Tests.{◌⟫◌, unless}
 use Rattle.tables.specs.Tables.{count, place, grants_from}
 use Rattle.tables.specs.Form.{headed, spared, test12}

@@ -1,7 +1,7 @@
 -- Document 01's "Packed forms": what the bytes of a table mean. Assumes nothing.
-use Rattle.std.specs.Prelude.{ℕ, zero, suc, ◌+◌, ◌-◌, ◌*◌, List, [], ◌∷◌, ◌++◌, length, get_or, take, drop}
+use Rattle.std.specs.Prelude.{ℕ, zero, suc, ◌+◌, ◌-◌, ◌*◌, List, [], ◌∷◌, ◌++◌, length, get_or, take, drop, Result}
 use Rattle.fields.specs.declared.kind.Kind.TheVariants.{TableHead, TableRecord}
-use Rattle.fields.specs.declared.record.Stored.{Stored}
+use Rattle.fields.specs.declared.record.Misfit.{Misfit}
 use Rattle.fields.specs.Records.{packed, values_of, stored, room_after}
 use Rattle.tables.specs.declared.packed.Grant.{Grant}
 
@@ -72,14 +72,14 @@ unfoldable pub table_of : ℕ → ℕ → List Grant → List ℕ
 table_of c φ gs = head (length gs) c φ ++ records gs
 
 -- what writing a grant as record i comes to in a room of n bytes
-unfoldable pub record_stored : Grant → ℕ → ℕ → Stored
+unfoldable pub record_stored : Grant → ℕ → ℕ → Result Unit Misfit
 record_stored g i n = stored TableRecord (fields_of g) (n - place i)
 
 -- the room afterwards
 unfoldable pub record_after : Grant → ℕ → List ℕ → List ℕ
 record_after g i room = take (place i) room ++ room_after TableRecord (fields_of g) (drop (place i) room)
 
--- the room after grants are records_after as records, the first of them as record i
+-- the room after grants are written as records, the first of them as record i
 unfoldable pub records_after : ℕ → List Grant → List ℕ → List ℕ
 records_after i [] room = room
 records_after i (g ∷ gs) room = records_after (suc i) gs (record_after g i room)

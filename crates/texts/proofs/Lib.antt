@@ -1,3 +1,3 @@
-pub mod Lines
+pub mod Rooms
 pub mod Printing
 pub mod Cases

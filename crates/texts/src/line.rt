@@ -1,49 +1,38 @@
-// The lines, each written at a place of a room.
-ghost use Rattle.std.specs.Prelude.{◌≡◌, ◌+◌, ◌≤◌, length};
-ghost use Rattle.std.proofs.lemmas.List.Edits.{sets};
-ghost use Rattle.texts.specs.Texts.{piece, head_line, grant_line, refusal_line};
+// The lines, each printed at a place of a room: the answer is the place behind it, whether or not it fits.
+ghost use Rattle.texts.specs.Texts.{head_line, grant_line, refusal_text};
+ghost use Rattle.words.specs.Places.{Prints};
 
 use crate::form::{AT, CYCLE, FEED, FLOW, FRAME, GRANT, GRANTS, LATE, LOAD, REFUSED};
+use refusals::Refusal;
 use tables::Grant;
+use words::{print, print_piece};
 
-// Writes a word and a number behind it at a place of the room, and answers the place behind them; the rest stays.
-fn put_piece(w: &[u8], v: u64, room: &mut [u8], at: usize) -> usize
-    requires { at + length (piece w.now v) ≤ length room.old }
-    ensures { (result ≡ at + length (piece w.now v)) × (room.new ≡ sets room.old at (piece w.now v)) }
+// The first line of a plan, at the room's front.
+pub(crate) fn print_head(cycle: u16, frame: u16, grants: usize, load: u64, room: &mut [u8]) -> usize
+    ensures { Prints room.old 0 (head_line cycle frame grants load) result room.new }
 {
-    let p = words::put(w, room, at);
-    words::put_numeral(v, room, p)
+    let at = print_piece(&CYCLE, u64::from(cycle), room, 0);
+    let at = print_piece(&FRAME, u64::from(frame), room, at);
+    let at = print_piece(&GRANTS, grants as u64, room, at);
+    let at = print_piece(&LOAD, load, room, at);
+    print(&FEED, room, at)
 }
 
-// Writes the first line of a plan at the room's front, and answers its length; the rest stays.
-pub(crate) fn put_head(cycle: u16, frame: u16, grants: usize, load: u64, room: &mut [u8]) -> usize
-    requires { length (head_line cycle frame grants load) ≤ length room.old }
-    ensures { (result ≡ length (head_line cycle frame grants load)) × (room.new ≡ sets room.old 0 (head_line cycle frame grants load)) }
+// The line of a grant.
+pub(crate) fn print_grant(g: Grant, room: &mut [u8], at: usize) -> usize
+    ensures { Prints room.old at (grant_line g) result room.new }
 {
-    let a = put_piece(&CYCLE, cycle as u64, room, 0);
-    let b = put_piece(&FRAME, frame as u64, room, a);
-    let d = put_piece(&GRANTS, grants as u64, room, b);
-    let e = put_piece(&LOAD, load, room, d);
-    words::put(&FEED, room, e)
+    let at = print_piece(&GRANT, u64::from(g.start), room, at);
+    let at = print_piece(&FLOW, u64::from(g.flow), room, at);
+    let at = print_piece(&LATE, u64::from(g.late), room, at);
+    print(&FEED, room, at)
 }
 
-// Writes the line of a grant at a place of the room, and answers the place behind it; the rest stays.
-pub(crate) fn put_grant(g: Grant, room: &mut [u8], at: usize) -> usize
-    requires { at + length (grant_line g) ≤ length room.old }
-    ensures { (result ≡ at + length (grant_line g)) × (room.new ≡ sets room.old at (grant_line g)) }
+// The line of a refusal, at the room's front.
+pub(crate) fn print_refusal(r: Refusal, room: &mut [u8]) -> usize
+    ensures { Prints room.old 0 (refusal_text r) result room.new }
 {
-    let a = put_piece(&GRANT, g.start as u64, room, at);
-    let b = put_piece(&FLOW, g.flow as u64, room, a);
-    let d = put_piece(&LATE, g.late as u64, room, b);
-    words::put(&FEED, room, d)
-}
-
-// Writes the line of a refusal at the room's front, and answers its length; the rest stays.
-pub(crate) fn put_refusal(number: u32, place: usize, room: &mut [u8]) -> usize
-    requires { length (refusal_line number place) ≤ length room.old }
-    ensures { (result ≡ length (refusal_line number place)) × (room.new ≡ sets room.old 0 (refusal_line number place)) }
-{
-    let a = put_piece(&REFUSED, number as u64, room, 0);
-    let b = put_piece(&AT, place as u64, room, a);
-    words::put(&FEED, room, b)
+    let at = print_piece(&REFUSED, u64::from(r.number()), room, 0);
+    let at = print_piece(&AT, r.place() as u64, room, at);
+    print(&FEED, room, at)
 }

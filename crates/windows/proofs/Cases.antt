@@ -1,12 +1,8 @@
 -- Windows of document 01's case A, computed from the definitions. Assumes nothing.
-use mathlib.Core.Path.{◌≡◌, refl}
-use mathlib.Core.List.{List, [], ◌∷◌}
-use Prim.Native.Nat.{ℕ}
-use lib.ListN.{take, drop}
+use Rattle.std.proofs.Common.{◌≡◌, refl, List, [], ◌∷◌, ℕ, take, drop}
 use Rattle.logic.specs.Lists.{All}
 use Rattle.refusals.specs.declared.Refusal.TheVariants.{WindowEnds}
-use Rattle.refusals.specs.declared.Checked.{Checked}
-use Rattle.refusals.specs.declared.Checked.TheVariants.{Passed, Refused}
+use Rattle.refusals.specs.Results.{Checked, Passed, Refused}
 use Rattle.refusals.specs.Tests.{lowest, against, after}
 use Rattle.fields.specs.Records.{packed, values_of}
 use Rattle.tables.specs.Tables.{head, head_of, count, cycle_of, frame_of, values_at, grant_at, spare_at, grants_from, grants_of, records, table_of}

@@ -1,16 +1,11 @@
 -- A window's stretch holds the records of the grants that start in it and no other, and its answer is the only one.
 -- Assumes nothing.
-use mathlib.Core.Path.{◌≡◌, refl, sym, ap, ◌∙◌}
-use mathlib.Core.List.{List, [], ◌∷◌}
-use Prim.Native.Nat.{ℕ, suc, ◌-◌, ◌≤◌, ◌<◌}
-use native.Mathlib.Nat.{sub-zero, zero-add}
-use native.Mathlib.Omega.{arith}
-use lib.ListN.{get_or, take, drop}
-use borrow.Author.Tests.{le-leb, lt-leb, lt-ltb, le-ltb}
-use denote.Ref.{Bor}
+use Rattle.std.proofs.Common.{◌≡◌, refl, sym, ap, ◌∙◌, List, [], ◌∷◌, ℕ, suc, ◌-◌, ◌≤◌, ◌<◌, zero-add, arith, get_or, take, drop, le-leb, lt-ltb, le-ltb, Bor}
+use native.Mathlib.Nat.{sub-zero}
+use borrow.Author.Tests.{lt-leb}
 use Rattle.logic.proofs.Tests.{by_lt}
 use Rattle.refusals.specs.declared.Refusal.{Refusal}
-use Rattle.refusals.specs.declared.Checked.TheVariants.{Passed, Refused}
+use Rattle.refusals.specs.Results.{Passed, Refused}
 use Rattle.tables.specs.declared.packed.Grant.{Grant}
 use Rattle.tables.specs.Tables.{place, grants_of, records}
 use Rattle.tables.specs.Form.{test12}

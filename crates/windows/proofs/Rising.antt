@@ -1,19 +1,15 @@
 -- Grants whose starts rise, as test 12 leaves them: where the grants before a start end. Assumes nothing.
-use mathlib.Core.Path.{◌≡◌}
-use mathlib.Core.List.{List, [], ◌∷◌}
-use Prim.Native.Nat.{ℕ, zero, suc, ◌≤◌, ◌<◌, zero-le, suc-le-suc}
-use native.Mathlib.Nat.{not-suc-le-zero, le_of_suc-le-suc}
-use native.Mathlib.Omega.{arith}
-use lib.ListN.{length, get_or}
-use borrow.Author.Tests.{lt-ltb, le-ltb, ltb-true}
+use Rattle.std.proofs.Common.{◌≡◌, ap, List, [], ◌∷◌, ℕ, zero, suc, ◌≤◌, ◌<◌, zero-le, suc-le-suc, not-suc-le-zero, le_of_suc-le-suc, arith, length, get_or, lt-ltb, le-ltb, ltb-true}
 use Rattle.logic.proofs.Tests.{by_lt}
 use Rattle.refusals.specs.declared.Refusal.TheVariants.{NotRising}
-use Rattle.refusals.specs.declared.Checked.TheVariants.{Passed}
+use Rattle.refusals.specs.Results.{Passed}
 use Rattle.refusals.specs.Tests.{against, after}
 use Rattle.refusals.proofs.Lowest.{Pass, lowest_pass}
 use Rattle.refusals.proofs.Walks.{against-after}
 use Rattle.tables.specs.declared.packed.Grant.{Grant}
+use Rattle.tables.specs.Tables.{count, grant_at, grants_of}
 use Rattle.tables.specs.Form.{rises, test12}
+use Rattle.tables.proofs.Records.{length-grants, grant_is}
 use Rattle.windows.specs.Window.{before}
 
 -- each grant starts after the one before it, the first after p
@@ -83,3 +79,16 @@ module _ (none : Grant) where
         let m = le_of_suc-le-suc l in
         let first = starts-after g gs j h m in
         rw (lt-ltb g.start a (omega arith)) (suc-le-suc (before-past gs (rises-rest g gs h) j m s))
+
+-- what a table's record i says of the grants before a start
+module _ (t : List ℕ) (a i : ℕ) (g : Grant) (read : g ≡ grant_at t i) (inside : i < count t) where
+  at_i : g.start ≡ (get_or (grants_of t) i g).start
+  at_i = ap (λ (g : Grant). g.start) (grant_is t g i g inside read)
+
+  -- it starts below a, and so is one of them where the starts rise
+  pub past : g.start < a → test12 (grants_of t) ≡ Passed → i < before a (grants_of t)
+  past l p = before-past g a (grants_of t) (rises-all (grants_of t) p) i (omega (arith, length-grants t)) (omega (arith, at_i))
+
+  -- or at a or later, and all of them stand before it
+  pub upto : a ≤ g.start → before a (grants_of t) ≤ i
+  upto l = before_upto g a (grants_of t) i (omega (arith, at_i))

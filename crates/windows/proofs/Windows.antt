@@ -1,40 +1,17 @@
--- A window of a table: test 19, the grants before a start, and where the stretch stands. Assumes nothing.
-use mathlib.Core.Path.{◌≡◌, refl, ap}
-use mathlib.Core.Bool.{◌&&◌}
-use mathlib.Core.List.{List, [], ◌∷◌}
-use Prim.Native.Nat.{ℕ, ◌≤◌, ◌<◌, zero-le, suc-le-suc}
-use native.Mathlib.Omega.{arith}
-use lib.Dec.{leb}
-use lib.ListN.{length}
-use borrow.Author.Tests.{le-leb, lt-leb, lt-ltb, le-ltb, leb-true}
+-- A window of a table: what its tests leave, the grants before a start, and where the stretch stands. Assumes nothing.
+use Rattle.std.proofs.Common.{◌≡◌, refl, ◌&&◌, List, [], ◌∷◌, ℕ, ◌≤◌, ◌<◌, zero-le, suc-le-suc, arith, leb, length, lt-ltb, le-ltb, leb-true, Ok, Err}
 use Rattle.logic.proofs.Tests.{by_lt, and_both}
 use Rattle.refusals.specs.declared.Refusal.{Refusal}
 use Rattle.refusals.specs.declared.Refusal.TheVariants.{WindowEnds}
-use Rattle.refusals.specs.declared.Checked.{Checked}
-use Rattle.refusals.specs.declared.Checked.TheVariants.{Passed, Refused}
+use Rattle.std.specs.declared.ops.Range.{Range}
+use Rattle.refusals.specs.Results.{Checked, Passed, Refused}
 use Rattle.refusals.proofs.Chains.{both_passed, unless_passed}
 use Rattle.tables.specs.declared.packed.Grant.{Grant}
-use Rattle.tables.specs.Tables.{cycle_of, place, grants_of}
+use Rattle.tables.specs.Tables.{count, cycle_of, place, grants_of}
 use Rattle.tables.specs.Form.{test12, form_tests}
-use Rattle.windows.specs.declared.stretch.Edges.TheVariants.{Bytes, Refused as Stopped}
 use Rattle.windows.specs.Window.{test19, window_tests, before, edge, edges_if, edges_of}
-use Rattle.tables.proofs.Records.{length-grants}
+use Rattle.tables.proofs.Records.{count_small, length-grants}
 use Rattle.tables.proofs.Forms.{Formed, form_passed}
-
--- ---- test 19
-
-module _ (t : List ℕ) (a b : ℕ) where
-  pub ends_crossed : b < a → Refused WindowEnds ≡ test19 t a b
-  unfolding test19
-  ends_crossed h = rw (lt-leb a b h)
-
-  pub ends-past : (k : ℕ) → k ≡ cycle_of t → a ≤ b → k < b → Refused WindowEnds ≡ test19 t a b
-  unfolding test19
-  ends-past k e h l = rw (le-leb a b h, lt-leb b (cycle_of t) (omega arith))
-
-  pub ends-good : (k : ℕ) → k ≡ cycle_of t → a ≤ b → b ≤ k → Passed ≡ test19 t a b
-  unfolding test19
-  ends-good k e h l = rw (le-leb a b h, le-leb b (cycle_of t) (omega arith))
 
 -- ---- the grants before a start
 
@@ -42,6 +19,10 @@ pub before-le : (a : ℕ) (gs : List Grant) → before a gs ≤ length gs
 unfolding before
 before-le a [] = zero-le
 before-le a (g ∷ gs) = by_lt g.start a (λ h. rw (lt-ltb g.start a h) (suc-le-suc (before-le a gs))) (λ h. rw (le-ltb g.start a h) zero-le)
+
+-- of a table's grants
+pub before_few : (t : List ℕ) (a : ℕ) → (before a (grants_of t) ≤ count t) × (count t < 65536)
+before_few t a = (omega (arith, before-le a (grants_of t), length-grants t), count_small t)
 
 -- a later end is no earlier
 pub before_mono : (a b : ℕ) (gs : List Grant) → a ≤ b → before a gs ≤ before b gs
@@ -76,10 +57,10 @@ lawful t a b e =
 
 -- the stretch stands in order inside the table
 pub lawful_edges : (t : List ℕ) (a b : ℕ) → Lawful t a b
-    → (before a (grants_of t) ≤ before b (grants_of t)) × (before b (grants_of t) ≤ 1024) × (place (before b (grants_of t)) ≤ length t)
+    → (before a (grants_of t) ≤ before b (grants_of t)) × (place (before b (grants_of t)) ≤ length t)
 lawful_edges t a b w =
     let le = before-le b (grants_of t) in
-    (before_mono a b (grants_of t) w.ordered, omega (arith, length-grants t, w.form.all.count_le), omega (arith, length-grants t, w.form.all.exact))
+    (before_mono a b (grants_of t) w.ordered, omega (arith, length-grants t, w.form.all.exact))
 
 module _ (k : Checked) (t : List ℕ) (a : ℕ) where
   pub edge_passed : (i : ℕ) → k ≡ Passed → i ≡ before a (grants_of t) → edge k t a ≡ place i
@@ -90,37 +71,30 @@ module _ (k : Checked) (t : List ℕ) (a : ℕ) where
   unfolding edge
   edge-refused r e = rw e
 
--- what the code finds: the tests' refusal, or as many bytes as the grants before either end take
+-- what the answer to a window says
 module _ (t : List ℕ) (a b : ℕ) where
-  pub edges_refused : (r : Refusal) → window_tests t a b ≡ Refused r → Stopped r ≡ edges_of t a b
-  unfolding edges_of
-  edges_refused r e = rw e
+  -- where it passes the starts rise
+  pub window_rises : window_tests t a b ≡ Passed → test12 (grants_of t) ≡ Passed
+  window_rises e = (lawful t a b e).rising
 
-  pub edges_passed : (i j : ℕ) → window_tests t a b ≡ Passed → i ≡ before a (grants_of t) → j ≡ before b (grants_of t) → Bytes (place i) (place j) ≡ edges_of t a b
+  -- on a refusal both stand at the table's front
+  pub edges_none : (r : Refusal) → edges_of t a b ≡ Err r → (edge (window_tests t a b) t a ≡ 0) × (edge (window_tests t a b) t b ≡ 0)
   unfolding edges_of edge
-  edges_passed i j e p q = rw (e, p, q)
-
-  -- and what it says
-  pub refused_edges : (r : Refusal) → edges_of t a b ≡ Stopped r → window_tests t a b ≡ Refused r
-  unfolding edges_of
-  refused_edges r e = go (window_tests t a b) e
+  edges_none r e = go (window_tests t a b) e
     where
-      go : (k : Checked) → edges_if k t a b ≡ Stopped r → k ≡ Refused r
-      go Passed q = let z : ◌≡◌ {A = ℕ} 0 1 = cc in absurd (omega arith)
-      go (Refused s) q = let z : s ≡ r = cc in ap (λ (x : Refusal). Refused x) z
+      go : (k : Checked) → edges_if k t a b ≡ Err r → (edge k t a ≡ 0) × (edge k t b ≡ 0)
+      go (Ok tt) q = let z : ◌≡◌ {A = ℕ} 0 1 = cc in absurd (omega arith)
+      go (Err s) q = (refl, refl)
 
-  pub passed_edges : (i j : ℕ) → edges_of t a b ≡ Bytes i j → let k = window_tests t a b in (k ≡ Passed) × (i ≡ edge k t a) × (j ≡ edge k t b)
-  unfolding edges_of
-  passed_edges i j e = go (window_tests t a b) e
+  -- the edges are the window's, in order and inside the table
+  pub edges_found : (r : Range ℕ) → edges_of t a b ≡ Ok r
+      → let k = window_tests t a b in (r.start ≡ edge k t a) × (r.end ≡ edge k t b) × (r.start ≤ r.end) × (r.end ≤ length t)
+  unfolding edges_of edge
+  edges_found r e = go (window_tests t a b) refl e
     where
-      go : (k : Checked) → edges_if k t a b ≡ Bytes i j → (k ≡ Passed) × (i ≡ edge k t a) × (j ≡ edge k t b)
-      go Passed q = (refl, (cc), (cc))
-      go (Refused s) q = let z : ◌≡◌ {A = ℕ} 0 1 = cc in absurd (omega arith)
-
-  -- the edges are in order and inside the table
-  pub edges_inside : let k = window_tests t a b in k ≡ Passed → (edge k t a ≤ edge k t b) × (edge k t b ≤ length t)
-  unfolding edge
-  edges_inside e = let h = lawful_edges t a b (lawful t a b e) in rw e (omega arith, h.2)
-
-  pub edges_ordered : (i j : ℕ) → edges_of t a b ≡ Bytes i j → i ≤ j
-  edges_ordered i j e = let f = passed_edges i j e in let h = edges_inside f.0 in omega arith
+      go : (k : Checked) → window_tests t a b ≡ k → edges_if k t a b ≡ Ok r → (r.start ≡ edge k t a) × (r.end ≡ edge k t b) × (r.start ≤ r.end) × (r.end ≤ length t)
+      go (Ok tt) w q =
+          let found : record { start = edge Passed t a; end = edge Passed t b } ≡ r = cc in
+          let inside = lawful_edges t a b (lawful t a b w) in
+          rw (← found) (refl, refl, omega (arith, inside.0), inside.1)
+      go (Err s) w q = let z : ◌≡◌ {A = ℕ} 0 1 = cc in absurd (omega arith)

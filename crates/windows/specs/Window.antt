@@ -1,13 +1,12 @@
 -- Document 01: "The window hands back the records with a ≤ start < b as a stretch of the caller's own table". Assumes nothing.
-use Rattle.std.specs.Prelude.{◌≡◌, ◌&&◌, cond, List, [], ◌∷◌, ℕ, suc, ◌+◌, ◌-◌, leb, ltb, take, drop}
+use Rattle.std.specs.Prelude.{◌≡◌, ◌&&◌, cond, List, [], ◌∷◌, ℕ, suc, ◌+◌, ◌-◌, leb, ltb, take, drop, Result, Ok, Err}
 use Rattle.std.specs.Borrow.{Bor}
+use Rattle.std.specs.declared.ops.Range.{Range}
+use Rattle.refusals.specs.declared.Refusal.{Refusal}
 use Rattle.refusals.specs.declared.Refusal.TheVariants.{WindowEnds}
-use Rattle.refusals.specs.declared.Checked.{Checked}
-use Rattle.refusals.specs.declared.Checked.TheVariants.{Passed, Refused}
+use Rattle.refusals.specs.Results.{Checked, Passed}
 use Rattle.refusals.specs.Tests.{◌⟫◌, unless}
 use Rattle.tables.specs.declared.packed.Grant.{Grant}
-use Rattle.windows.specs.declared.stretch.Edges.{Edges}
-use Rattle.windows.specs.declared.stretch.Edges.TheVariants.{Bytes, Refused as Stopped}
 use Rattle.tables.specs.Tables.{cycle_of, place, grants_of}
 use Rattle.tables.specs.Form.{form_tests}
 
@@ -32,16 +31,16 @@ starting_in a b (g ∷ gs) = let rest = starting_in a b gs in cond (leb a g.star
 -- where the stretch of an end stands in the table, in bytes: before the first record with start ≥ a, or at the end of the table;
 -- on a refusal at the table's front
 unfoldable pub edge : Checked → List ℕ → ℕ → ℕ
-edge Passed t a = place (before a (grants_of t))
-edge (Refused r) t a = 0
+edge (Ok tt) t a = place (before a (grants_of t))
+edge (Err r) t a = 0
 
 -- both edges, or the refusal
-abbrev pub edges_if : Checked → List ℕ → ℕ → ℕ → Edges
-edges_if Passed t a b = Bytes (edge Passed t a) (edge Passed t b)
-edges_if (Refused r) t a b = Stopped r
+abbrev pub edges_if : Checked → List ℕ → ℕ → ℕ → Result (Range ℕ) Refusal
+edges_if (Ok tt) t a b = Ok (record { start = edge Passed t a; end = edge Passed t b })
+edges_if (Err r) t a b = Err r
 
 -- the edges of a window
-unfoldable pub edges_of : List ℕ → ℕ → ℕ → Edges
+unfoldable pub edges_of : List ℕ → ℕ → ℕ → Result (Range ℕ) Refusal
 edges_of t a b = edges_if (window_tests t a b) t a b
 
 -- r is the part of s from byte i up to byte e: those bytes, and where they stand in the caller's own memory

@@ -5,3 +5,4 @@ pub mod Whole
 pub mod Numerals
 pub mod Texts
 pub mod Places
+pub mod Prints

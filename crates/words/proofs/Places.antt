@@ -1,13 +1,15 @@
 -- A text written at a place of a room, each way that it can end. Assumes nothing.
 use mathlib.Core.Path.{◌≡◌, refl, sym, ap, ◌∙◌}
-use mathlib.Core.Bool.{Bool, true, false, not}
-use mathlib.Core.List.{List}
+use mathlib.Core.Bool.{true, false}
+use mathlib.Core.List.{List, append_assoc}
 use Prim.Native.Nat.{ℕ, ◌+◌, ◌-◌, ◌≤◌, ◌<◌}
 use native.Mathlib.Omega.{arith}
 use lib.Dec.{leb}
-use lib.ListN.{length}
-use lib.Seq.{sets}
-use borrow.Author.Tests.{le-leb, lt-leb, leb-true, not-false}
+use lib.ListN.{length, drop}
+use lib.Seq.{sets, drop-drop}
+use Rattle.std.proofs.lemmas.List.Edits.{sets-eq}
+use borrow.Rule.Slice.PartMut.{put_mid}
+use borrow.Author.Tests.{le-leb, lt-leb, leb-true}
 use Rattle.logic.proofs.Tests.{by_lt}
 use Rattle.words.specs.Places.{within, behind, put_at}
 
@@ -25,9 +27,11 @@ module _ (at k n : ℕ) where
   unfolding within
   within-le e = leb-true (at + k) n e
 
-  -- where the test of it, as the calls give it, was passed
-  pub passed_le : (r : Bool) → r ≡ within at k n → not r ≡ false → at + k ≤ n
-  passed_le r e p = within-le (sym e ∙ not-false r p)
+-- a word copied over a part of the room, as the calls give it
+pub copied-sets : (at k : ℕ) (room w part : List ℕ) → at + length w ≤ length room → k ≡ length w → part ≡ w → put_mid at k room part ≡ sets room at w
+copied-sets at k room w part h e q =
+    let rest : drop (length w) (drop at room) ≡ drop (at + length w) room = drop-drop (length w) at room in
+    rw (e, q) (rw (rest, ← append_assoc) (sym (sets-eq w room at h)))
 
 module _ (at : ℕ) (w room : List ℕ) where
   -- k is the text's length, as the calls give it

@@ -3,6 +3,7 @@
 use mathlib.Core.Path.{◌≡◌, refl, sym, ap, ◌∙◌}
 use mathlib.Core.List.{List, [], ◌∷◌, ◌++◌}
 use Prim.Native.Nat.{ℕ, zero, suc, ◌+◌, ◌-◌, ◌*◌, ◌/◌, ◌%◌, ◌≤◌, ◌<◌}
+use Rattle.std.proofs.Common.{◌^◌}
 use native.Mathlib.Numerals.{add-one}
 use native.Mathlib.Omega.{arith}
 use lib.ListN.{length, get_or, length-append}
@@ -43,6 +44,11 @@ pub figures-more : (v : ℕ) → 10 ≤ v → figures v ≡ figures (v / 10) + 1
 unfolding figures
 figures-more v h = more-to v v refl h
 
+-- a number between two powers of ten
+pub figures-between : (k v : ℕ) → 10 ^ k ≤ v → v < 10 * 10 ^ k → figures v ≡ k + 1
+figures-between zero v l h = figures-one v (omega arith)
+figures-between (suc k) v l h = omega (arith, figures-more v (omega arith), figures-between k (v / 10) (omega arith) (omega arith))
+
 -- ten times itself k times over
 abbrev tens : ℕ → ℕ
 tens zero = 10
@@ -53,10 +59,6 @@ figures-tens zero v h = omega (arith, figures-one v h)
 figures-tens (suc k) v h =
     by_lt v 10 (λ l. omega (arith, figures-one v l))
     (λ l. omega (arith, figures-more v l, figures-tens k (v / 10) (omega arith)))
-
--- a number of 64 bits has at most 20
-pub figures-le : (v : ℕ) → v < 18446744073709551616 → figures v ≤ 20
-figures-le v h = figures-tens 19 v (omega arith)
 
 -- ---- the digits
 

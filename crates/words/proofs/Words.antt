@@ -1,36 +1,27 @@
 -- A word compared with the front of a text. Assumes nothing.
-use mathlib.Core.Path.{◌≡◌, refl, ap}
-use mathlib.Core.Bool.{true, false, and-false}
+use mathlib.Core.Path.{◌≡◌, refl, sym, ap, ap₂, ◌∙◌}
+use mathlib.Core.Bool.{true, true≢false, ◌&&◌}
 use mathlib.Core.List.{List, [], ◌∷◌, ◌++◌}
-use Prim.Native.Nat.{ℕ, ◌+◌, ◌≤◌, ◌<◌, zero-le}
-use native.Mathlib.Nat.{not-suc-le-zero, le_of_suc-le-suc}
-use native.Mathlib.Numerals.{add-one}
+use Prim.Native.Nat.{ℕ, ◌≤◌, zero-le}
 use native.Mathlib.Omega.{arith}
 use lib.Dec.{eqb}
-use lib.ListN.{length, get_or, drop, drop_of_length-le}
-use lib.Seq.{drop-cons}
+use lib.ListN.{length, drop}
 use borrow.Author.Tests.{eq-eqb, ne_eqb, eqb-true}
-use Rattle.logic.proofs.Tests.{and_both}
+use Rattle.std.specs.List.{starts_with}
+use Rattle.logic.proofs.Tests.{by_test, and_both}
 use Rattle.words.specs.Words.{starts}
 
-pub starts_short : (w s : List ℕ) → length s < length w → starts w s ≡ false
+eqb-sym : (a b : ℕ) → eqb a b ≡ eqb b a
+eqb-sym a b =
+    by_test (eqb a b) (λ e. e ∙ sym (eq-eqb b a (sym (eqb-true a b e))))
+    (λ e. e ∙ sym (ne_eqb b a (λ q. true≢false (sym (eq-eqb a b (sym q)) ∙ e))))
+
+-- the library's word says the same
+pub starts_with-starts : (w s : List ℕ) → starts_with eqb s w ≡ starts w s
 unfolding starts
-starts_short [] s h = absurd (not-suc-le-zero h)
-starts_short (a ∷ w) [] h = refl
-starts_short (a ∷ w) (x ∷ s) h = rw (starts_short w s (le_of_suc-le-suc h)) (and-false (eqb x a))
-
-module _ (w s : List ℕ) (i : ℕ) (hw : i < length w) (hs : i < length s) where
-  pub starts_same : get_or s i 0 ≡ get_or w i 0 → starts (drop i w) (drop i s) ≡ starts (drop (i + 1) w) (drop (i + 1) s)
-  unfolding starts
-  starts_same e = rw (add-one, drop-cons w i 0, drop-cons s i 0, eq-eqb _ _ e)
-
-  pub starts_other : (get_or s i 0 ≡ get_or w i 0 → ⊥) → starts (drop i w) (drop i s) ≡ false
-  unfolding starts
-  starts_other e = rw (drop-cons w i 0, drop-cons s i 0, ne_eqb _ _ e)
-
-pub starts_end : (w s : List ℕ) (i : ℕ) → length w ≤ i → starts (drop i w) s ≡ true
-unfolding starts
-starts_end w s i h = rw (drop_of_length-le w h)
+starts_with-starts [] s = refl
+starts_with-starts (a ∷ w) [] = refl
+starts_with-starts (a ∷ w) (x ∷ s) = ap₂ ◌&&◌ (eqb-sym a x) (starts_with-starts w s)
 
 -- a text that begins with a word is the word and what follows
 pub starts-split : (w s : List ℕ) → starts w s ≡ true → s ≡ w ++ drop (length w) s

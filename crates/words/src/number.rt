@@ -1,86 +1,55 @@
 // A number in a text, read.
 ghost use Rattle.std.specs.Prelude.{◌≡◌, ◌≤◌, length};
-ghost use Rattle.words.specs.Numerals.{digit};
-ghost use Rattle.words.specs.Numbers.{formed, goes_on, number_at, number_after};
+ghost use Rattle.std.specs.Char.{is_ascii_digit};
+ghost use Rattle.std.specs.List.{prefix_len};
+ghost use Rattle.words.specs.Numbers.{formed, number_at, number_after};
 
 use crate::word::begins;
 
-// What a reader of a number finds: its value and the place behind it.
-#[derive(Clone, Copy)]
-pub enum Number {
-    Is(u16, usize),
-    Nothing,
-}
-
-// The byte is a decimal digit.
-fn is_digit(b: u8) -> bool
-    ensures { result ≡ digit b }
-{
-    if b < 48 {
-        return false;
-    }
-    b < 58
-}
-
-// A digit stands at the second place, with fewer than five bytes from the first to it.
-fn goes_on(s: &[u8], at: usize, e: usize) -> bool
-    requires { at ≤ e }
-    ensures { result ≡ goes_on at e s.now }
-{
-    if 5 <= e - at {
-        return false;
-    }
-    if s.len() <= e {
-        return false;
-    }
-    is_digit(s[e])
-}
-
 // The digits are 1 to 4, with no leading zero except "0" itself.
-fn formed(s: &[u8]) -> bool
-    ensures { result ≡ formed s.now }
+fn formed(digits: &[u8]) -> bool
+    ensures { result ≡ formed digits.now }
 {
-    if s.len() == 0 {
-        return false;
+    match digits {
+        [] => false,
+        [_] => true,
+        [b'0', ..] => false,
+        _ => digits.len() <= 4,
     }
-    if 4 < s.len() {
-        return false;
-    }
-    if s.len() == 1 {
-        return true;
-    }
-    s[0] != 48
 }
 
-// The number that stands at a place of the text. Its digits are gone through once; a fifth one is too many already.
-fn number_at(s: &[u8], at: usize) -> Number
+// How many digits the text begins with.
+fn run(s: &[u8]) -> usize
+    ensures { result ≡ prefix_len is_ascii_digit s.now }
+{
+    s.iter().take_while(|b| b.is_ascii_digit()).count()
+}
+
+// The number that stands at a place of the text, and the place behind it.
+fn number_at(s: &[u8], at: usize) -> Option<(u16, usize)>
     requires { at ≤ length s.now }
     ensures { result ≡ number_at at s.now }
 {
-    let mut v: u32 = 0;
-    let mut e = at;
-    while goes_on(s, at, e) {
-        let d = (s[e] - 48) as u32;
-        v = v * 10 + d;
-        e += 1;
+    let end = at + run(&s[at..]);
+    let digits = &s[at..end];
+    if !formed(digits) {
+        return None;
     }
-    if !formed(&s[at..e]) {
-        return Number::Nothing;
+    let mut v = 0;
+    for b in digits {
+        v = v * 10 + u16::from(*b - b'0');
     }
-    Number::Is(v as u16, e)
+    Some((v, end))
 }
 
-// The number behind a word that stands at a place of the text.
-pub fn number_after(s: &[u8], at: usize, w: &[u8]) -> Number
+// The number behind a word that stands at a place of the text, and the place behind it. Inlined, so that a word of constant length
+// costs a compare or two.
+#[inline]
+pub fn number_after(s: &[u8], at: usize, w: &[u8]) -> Option<(u16, usize)>
     ensures { result ≡ number_after at w.now s.now }
 {
-    let end = s.len();
-    if end < at {
-        return Number::Nothing;
+    if !begins(s.get(at..)?, w) {
+        return None;
     }
-    if !begins(&s[at..end], w) {
-        return Number::Nothing;
-    }
-    let from = at + w.len();
-    number_at(s, from)
+    number_at(s, at + w.len())
 }

@@ -1,41 +1,34 @@
 -- `accepting::chain::field_test` meets its contract.
 -- Assumes nothing.
-use mathlib.Core.Path.{refl, sym, ap, ◌∙◌}
-use mathlib.Core.Bool.{true, false}
-use native.Mathlib.Omega.{arith}
+use Rattle.std.proofs.Common.{rules, ◌≡◌, ◌+◌, ◌<◌, arith, sym, ap, ◌∙◌}
 use Rattle.flows.specs.Flows.{no_flow, keeps}
-use Rattle.flows.proofs.Flows.{kept_keeps, broken-keeps}
 use Rattle.refusals.specs.declared.Refusal.TheVariants.{Field}
-use Rattle.refusals.proofs.Walks.{walk_alone, walk-next, walk_here, walk_end}
-use Rattle.lists.specs.Lists.{flows_of}
+use Rattle.refusals.specs.Tests.{◌⟫◌}
+use Rattle.refusals.proofs.Walks.{walk, walk_alone, walk-turn, walk_end}
+use Rattle.lists.specs.Lists.{count, flows_of}
 use Rattle.lists.specs.Tests.{test4}
 use Rattle.lists.proofs.Records.{length-flows, flow_is}
 use Rattle.accepting.proofs.chain.field_test.Goals as goal
+use Rattle.accepting.proofs.chain.field_test.Goals.{After-unless}
 
 pub loop-i-init : goal.loop-i-init
 unfolding test4
-loop-i-init c = (omega arith, walk_alone Field keeps (flows_of c.args.list.now) no_flow)
+loop-i-init c = walk_alone Field keeps (flows_of c.args.list.now) no_flow
 
-pub returns-in-Broken : goal.returns-in-Broken
-returns-in-Broken c =
-    let v = c.loop-i in
+-- what is said from record i on
+turn : (c : After-unless) → let fs = flows_of c.args.list.now in
+    let i = c.loop-i.i in
+    walk Field (λ _ f. keeps f) fs no_flow i ≡ c.unless.result ⟫ walk Field (λ _ f. keeps f) fs no_flow (i + 1)
+turn c =
     let l = c.args.list.now in
-    walk_here Field (λ _ f. keeps f) (flows_of l) no_flow v.i (omega (arith, c.count-n.ensures, length-flows l)) false
-    (sym (broken-keeps c.flow_at.result (sym c.rule-rule.ensures ∙ c.in-Broken.is)) ∙ ap keeps (flow_is l v.i _ (omega (arith, c.count-n.ensures)) c.flow_at.ensures)) refl
-    ∙ v.invariant.1
+    let h : c.loop-i.i < count l = omega (arith, c.count-i-end.ensures) in
+    rw c.unless.ensures (walk-turn Field (λ _ f. keeps f) (flows_of l) no_flow c.loop-i.i (omega (arith, c.count-i-end.ensures, length-flows l)) _ (c.keeps.ensures ∙ ap keeps (flow_is l c.loop-i.i _ h c.flow_at.ensures)))
+
+pub returns-in_err-unless : goal.returns-in_err-unless
+returns-in_err-unless c = search (rules, turn (goal.at.returns-in_err-unless c).After-unless)
 
 pub loop-i-preserved : goal.loop-i-preserved
-loop-i-preserved c =
-    let v = c.loop-i in
-    let l = c.args.list.now in (
-      omega arith,
-      sym (walk-next Field (λ _ f. keeps f) (flows_of l) no_flow v.i (omega (arith, c.count-n.ensures, length-flows l)) true
-          (sym (kept_keeps c.flow_at.result (sym c.rule-rule.ensures ∙ c.in_default.is)) ∙ ap keeps (flow_is l v.i _ (omega (arith, c.count-n.ensures)) c.flow_at.ensures)) refl)
-          ∙ v.invariant.1,
-    )
+loop-i-preserved c = search (rules, turn (goal.at.loop-i-preserved c).After-unless)
 
 pub returns : goal.returns
-returns c =
-    let v = c.loop-i in
-    let l = c.args.list.now in
-    walk_end Field (λ _ f. keeps f) (flows_of l) no_flow v.i (omega (arith, c.count-n.ensures, length-flows l)) ∙ v.invariant.1
+returns c = walk_end Field (λ _ f. keeps f) (flows_of c.args.list.now) no_flow c.loop-i.i (omega (arith, c.count-i-end.ensures, length-flows c.args.list.now)) ∙ c.loop-i.invariant

@@ -1,54 +1,84 @@
 -- `adding::adding::live_add` meets its contract.
 -- Assumes nothing.
-use mathlib.Core.Path.{◌≡◌, sym, ap, subst, ◌∙◌}
-use mathlib.Core.Bool.{true}
-use Prim.Native.Nat.{ℕ, ◌+◌}
-use native.Mathlib.Omega.{arith}
-use Rattle.flows.specs.declared.flow.Flow.{Flow}
+use Rattle.std.proofs.Common.{Ok, true, ◌≡◌, ◌+◌, ◌/◌, ◌≤◌, sym, ap, ◌∙◌, ◌<◌, ℕ, length, arith, Option, ok_or}
+use Rattle.refusals.specs.declared.Refusal.TheVariants.{NoOffset}
 use Rattle.flows.specs.Flows.{new_flow, keeps}
-use Rattle.flows.proofs.Asking.{asked_kept, asked-broken}
-use Rattle.refusals.specs.declared.Refusal.TheVariants.{Field}
-use Rattle.refusals.specs.declared.Checked.TheVariants.{Passed, Refused}
-use Rattle.law.specs.Check.{check}
-use Rattle.adding.proofs.Answering.{Ends, new_full, new-broken, ends-checked, ends-new}
+use Rattle.refusals.specs.Results.{Passed}
+use Rattle.lists.specs.Lists.{flows_of}
+use Rattle.lists.specs.Tests.{tests1to4}
+use Rattle.tables.specs.Tables.{count, cycle_of, place}
+use Rattle.offsets.specs.Adding.{list_bytes, add_answer}
+use Rattle.adding.specs.Parts.{Joins}
+use Rattle.adding.proofs.Answering.{check_refuses, record_refuses, later_refuses, offset_refuses, joins, offset_answers, stays, may_write, list_after, table_after}
 use Rattle.adding.proofs.adding.live_add.Goals as goal
-use Rattle.adding.proofs.adding.live_add.Goals.{In-Kept, In_default}
+use Rattle.adding.proofs.adding.live_add.Goals.{Start, In_ok-flow, In_ok-later_tests, In_ok-offset}
 
-pub returns-in-Refused : goal.returns-in-Refused
-returns-in-Refused c =
+pub returns-in_err-check_and_index : goal.returns-in_err-check_and_index
+returns-in_err-check_and_index c =
     let a = c.args in
-    let whole = ends-checked a.list.now a.table.now (new_flow a.number a.size a.interval a.jitter) a.list_room.now a.table_room.now _ (sym c.check_and_index-checked.ensures.value ∙ c.in-Refused.is) in record { value = whole.0; list_room_after = whole.1.0; table_room_after = whole.1.1 }
+    let e = check_refuses a.list.now a.table.now (new_flow a.number a.size a.interval a.jitter) (length a.list_room.now) (length a.table_room.now) _ (sym c.in_err-check_and_index.ensures.value) in
+    let s = stays _ _ _ a.list_room.now a.table_room.now _ e in
+    record { value = grind arith; list_room_after = s.0; table_room_after = s.1 }
 
--- the old list and table pass
-passed : (c : In_default) → let a = c.args in check a.list.now a.table.now ≡ Passed
-passed c = sym c.check_and_index-checked.ensures.value ∙ c.in_default.is
+pub returns-in_err-flow : goal.returns-in_err-flow
+returns-in_err-flow c =
+    let a = c.args in
+    let e = record_refuses a.list.now a.table.now (new_flow a.number a.size a.interval a.jitter) (length a.list_room.now) (length a.table_room.now) (sym c.in_ok-check_and_index.ensures.value) _ (sym c.in_err-flow.ensures) in
+    let s = stays _ _ _ a.list_room.now a.table_room.now _ e in
+    record { value = grind arith; list_room_after = s.0; table_room_after = s.1 }
 
-pub returns-then-n-ge128 : goal.returns-then-n-ge128
-returns-then-n-ge128 c =
+pub returns-in_err-later_tests : goal.returns-in_err-later_tests
+returns-in_err-later_tests c =
+    let a = c.args in
+    let e = later_refuses a.list.now a.table.now (new_flow a.number a.size a.interval a.jitter) (length a.list_room.now) (length a.table_room.now) (sym c.in_ok-check_and_index.ensures.value) _ (sym c.in_ok-flow.ensures) _ (sym c.in_err-later_tests.ensures) in
+    let s = stays _ _ _ a.list_room.now a.table_room.now _ e in
+    record { value = grind arith; list_room_after = s.0; table_room_after = s.1 }
+
+-- all tests before 22 pass
+joined : (c : In_ok-later_tests) → Joins c.args.list.now c.args.table.now c.in_ok-flow.flow
+joined c =
+    let a = c.args in
+    joins a.list.now a.table.now (new_flow a.number a.size a.interval a.jitter) (length a.list_room.now) (length a.table_room.now) (sym c.in_ok-check_and_index.ensures.value) _ (sym c.in_ok-flow.ensures) (sym c.in_ok-later_tests.ensures)
+
+pub first_offset-requires : goal.first_offset-requires
+first_offset-requires c = (c.check_and_index.ensures.indexed c.in_ok-check_and_index.was, joined (goal.at.first_offset-requires c).In_ok-later_tests)
+
+pub returns-in_err-offset : goal.returns-in_err-offset
+returns-in_err-offset c =
+    let a = c.args in
+    let e = offset_refuses a.list.now a.table.now (new_flow a.number a.size a.interval a.jitter) (length a.list_room.now) (length a.table_room.now) (sym c.in_ok-check_and_index.ensures.value) _ (sym c.in_ok-flow.ensures) (sym c.in_ok-later_tests.ensures) _ (ap (λ (x : Option ℕ). ok_or x NoOffset) (sym c.first_offset.ensures) ∙ sym c.ok_or.ensures.value ∙ c.in_err-offset.was) in
+    let s = stays _ _ _ a.list_room.now a.table_room.now _ e in
+    record { value = grind arith; list_room_after = s.0; table_room_after = s.1 }
+
+-- an offset is answered
+answer : (c : In_ok-offset) → let a = c.args in
+    Ok c.in_ok-offset.offset ≡ add_answer a.list.now a.table.now (new_flow a.number a.size a.interval a.jitter) (length a.list_room.now) (length a.table_room.now)
+answer c =
+    let a = c.args in
+    offset_answers a.list.now a.table.now (new_flow a.number a.size a.interval a.jitter) (length a.list_room.now) (length a.table_room.now) (sym c.in_ok-check_and_index.ensures.value) _ (sym c.in_ok-flow.ensures) (sym c.in_ok-later_tests.ensures) _
+    (ap (λ (x : Option ℕ). ok_or x NoOffset) (sym c.first_offset.ensures) ∙ sym c.ok_or.ensures.value ∙ c.in_ok-offset.was)
+
+-- what is left to be known for writing
+ready : (c : In_ok-offset) → let a = c.args in let g = c.in_ok-flow.flow in let o = c.in_ok-offset.offset in
+    (tests1to4 a.list.now ≡ Passed) × (keeps g ≡ true) × (o < g.interval) × (list_bytes (flows_of a.list.now) g ≤ length a.list_room.now)
+    × (place (count a.table.now + cycle_of a.table.now / g.interval) ≤ length a.table_room.now)
+ready c = let a = c.args in may_write a.list.now a.table.now (new_flow a.number a.size a.interval a.jitter) _ (sym c.in_ok-flow.ensures) a.list_room.now a.table_room.now _ (answer c)
+
+pub write_list-requires : goal.write_list-requires
+write_list-requires c = let r = ready (goal.at.write_list-requires c).In_ok-offset in (r.0, r.1, r.3)
+
+pub write_table-requires : goal.write_table-requires
+write_table-requires c =
+    let r = ready (goal.at.write_table-requires c).In_ok-offset in
+    ((c.args.list.now, joined (goal.at.write_table-requires c).In_ok-later_tests), r.2, r.4)
+
+pub returns : goal.returns
+returns c =
     let a = c.args in
     let f = new_flow a.number a.size a.interval a.jitter in
-    let whole = ends-new a.list.now a.table.now f a.list_room.now a.table_room.now _ (passed (goal.at.returns-then-n-ge128 c).In_default) (new_full a.list.now a.table.now f (passed (goal.at.returns-then-n-ge128 c).In_default) (omega (arith, c.if-n-ge128.true, c.count-n.ensures.0))) in record { value = whole.0; list_room_after = whole.1.0; table_room_after = whole.1.1 }
-
--- the new flow keeps its rule
-kept : (c : In-Kept) → let a = c.args in
-    let f = new_flow a.number a.size a.interval a.jitter in
-    (f ≡ c.in-Kept.f) × (keeps f ≡ true)
-kept c = asked_kept _ _ (sym c.new_flow-asked.ensures ∙ c.in-Kept.is)
-
-pub test_and_write-requires : goal.test_and_write-requires
-test_and_write-requires c =
-    let b = kept (goal.at.test_and_write-requires c).In-Kept in
-    (c.check_and_index-checked.ensures.indexed c.in_default.is, passed (goal.at.test_and_write-requires c).In_default, omega (arith, c.if-n-ge128.false, c.count-n.ensures.0), ap keeps (sym b.0) ∙ b.1)
-
-pub returns-in-Broken : goal.returns-in-Broken
-returns-in-Broken c =
-    let a = c.args in
-    let f = new_flow a.number a.size a.interval a.jitter in
-    let whole = ends-new a.list.now a.table.now f a.list_room.now a.table_room.now _ (passed (goal.at.returns-in-Broken c).In_default)
-    (new-broken a.list.now a.table.now f (passed (goal.at.returns-in-Broken c).In_default) (omega (arith, c.if-n-ge128.false, c.count-n.ensures.0)) (asked-broken f (sym c.new_flow-asked.ensures ∙ c.in-Broken.is))
-    ∙ ap (λ (k : ℕ). Refused (Field (k + 1))) (sym c.count-n.ensures.0)) in record { value = whole.0; list_room_after = whole.1.0; table_room_after = whole.1.1 }
-
-pub returns-in-Kept : goal.returns-in-Kept
-returns-in-Kept c =
-    let a = c.args in
-    let whole = subst (λ (f : Flow). Ends a.list.now a.table.now f a.list_room.now a.table_room.now c.test_and_write.result c.test_and_write.new.list_room c.test_and_write.new.table_room) (sym (kept (goal.at.returns-in-Kept c).In-Kept).0) (c.test_and_write.ensures.value, (c.test_and_write.ensures.list_room_after, c.test_and_write.ensures.table_room_after)) in record { value = whole.0; list_room_after = whole.1.0; table_room_after = whole.1.1 }
+    let e = answer (goal.at.returns c).In_ok-offset in
+    record {
+      value = grind arith;
+      list_room_after = list_after a.list.now a.table.now f _ (sym c.in_ok-flow.ensures) a.list_room.now a.table_room.now _ e _ c.write_list.ensures;
+      table_room_after = table_after a.list.now a.table.now f _ (sym c.in_ok-flow.ensures) a.list_room.now a.table_room.now _ e _ c.write_table.ensures;
+    }

@@ -1,11 +1,9 @@
 -- `adding::search::first_offset` meets its contract.
 -- Assumes nothing.
-use mathlib.Core.Path.{sym, ap, ◌∙◌}
-use Prim.Native.Nat.{ℕ}
-use native.Mathlib.Omega.{arith}
+use Rattle.std.proofs.Common.{ℕ, sym, ap, ◌∙◌, arith}
 use Rattle.marks.proofs.Marking.{none-marked}
 use Rattle.lists.specs.Facts.{occupies}
-use Rattle.adding.specs.Parts.{first_run, first_of}
+use Rattle.adding.specs.Parts.{first_run}
 use Rattle.adding.proofs.Known.{Known, known}
 use Rattle.adding.proofs.Searching.{offset_is_run}
 use Rattle.adding.proofs.search.first_offset.Goals as goal
@@ -18,11 +16,7 @@ is c = known c.args.list.now c.args.table.now c.args.f c.requires.1
 pub mark_grants-requires : goal.mark_grants-requires
 mark_grants-requires c =
     let k = is (goal.at.mark_grants-requires c).Start in
-    let r = k.rule in record {
-      indexed = (c.requires.0, k.listed);
-      interval_nonzero = omega (arith, r.timed, r.interval_le);
-      unmarked = none-marked 512;
-    }
+    record { indexed = c.requires.0; early = k.early; within = (omega (arith, k.rule.timed), omega (arith, k.rule.interval_le)); unmarked = none-marked 512 }
 
 pub first_run-requires : goal.first_run-requires
 unfolding occupies
@@ -34,5 +28,5 @@ pub returns : goal.returns
 returns c =
     let a = c.args in
     c.first_run.ensures
-    ∙ ap (λ (n : ℕ). first_of (first_run c.mark_grants.new.taken n a.f.interval)) c.occupies.ensures
-    ∙ ap first_of (sym (offset_is_run a.list.now a.table.now a.f (is (goal.at.returns c).Start) _ c.mark_grants.ensures))
+    ∙ ap (λ (n : ℕ). first_run c.mark_grants.new.taken n a.f.interval) c.occupies.ensures
+    ∙ sym (offset_is_run a.list.now a.table.now a.f (is (goal.at.returns c).Start) _ c.mark_grants.ensures)

@@ -1,13 +1,11 @@
 -- `adding::search::mark_slots` meets its contract.
 -- Assumes nothing.
-use mathlib.Core.Path.{◌≡◌}
-use Prim.Native.Nat.{◌+◌, ◌-◌, ◌%◌, ◌≤◌}
-use lib.ListN.{length}
+use Rattle.std.proofs.Common.{◌-◌, ◌≤◌}
 use Rattle.adding.specs.Parts.{Laid}
 use Rattle.adding.proofs.search.mark_slots.Given as goal
 
-abbrev pub invariant-loop-left : goal.invariant-loop-left
-invariant-loop-left l = (l.left ≤ l.slots) × (length l.taken ≡ length l.initial.taken) × (l.p ≡ (l.start + (l.slots - l.left)) % l.interval) × Laid l.initial.taken l.interval l.start (l.start + (l.slots - l.left)) l.taken
+abbrev pub invariant-loop-slot : goal.invariant-loop-slot
+invariant-loop-slot l = (l.start ≤ l.slot) × (l.slot ≤ l.end) × Laid l.initial.taken l.interval l.start l.slot l.taken
 
-abbrev pub decreases-loop-left : goal.decreases-loop-left
-decreases-loop-left l = l.left
+abbrev pub decreases-loop-slot : goal.decreases-loop-slot
+decreases-loop-slot l = l.end - l.slot

@@ -1,14 +1,9 @@
 -- `adding::writing::write_grants` meets its contract.
 -- Assumes nothing.
-use mathlib.Core.Path.{◌≡◌}
-use Prim.Native.Nat.{◌-◌, ◌/◌}
-use lib.ListN.{length}
+use Rattle.std.proofs.Common.{◌≡◌, ◌/◌, length}
 use Rattle.tables.specs.Tables.{cycle_of, grants_of as grants_in}
 use Rattle.adding.proofs.Merging.{Merging}
 use Rattle.adding.proofs.writing.write_grants.Given as goal
 
 abbrev pub invariant-loop-k : goal.invariant-loop-k
-invariant-loop-k l = (length l.room ≡ length l.initial.room) × Merging (grants_in l.table) l.f l.offset (cycle_of l.table / l.f.interval) l.initial.room l.i l.k l.x l.room
-
-abbrev pub decreases-loop-k : goal.decreases-loop-k
-decreases-loop-k l = l.total - l.k
+invariant-loop-k l = (length l.room ≡ length l.initial.room) × Merging (grants_in l.table) l.f l.offset (cycle_of l.table / l.f.interval) l.initial.room l.i l.k l.room

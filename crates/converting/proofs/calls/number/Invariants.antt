@@ -1,7 +1,9 @@
 -- `converting::calls::number` meets its contract.
 -- Assumes nothing.
-use Rattle.converting.proofs.Values.{ValueAt}
+use Rattle.std.proofs.Common.{◌≡◌, ◌^◌, ◌<◌, drop}
+use Rattle.settings.specs.Encodings.{number, number_from}
 use Rattle.converting.proofs.calls.number.Given as goal
 
-abbrev pub invariant-loop-i : goal.invariant-loop-i
-invariant-loop-i l = ValueAt l.value l.i l.v
+abbrev pub invariant-loop-b : goal.invariant-loop-b
+invariant-loop-b l =
+    record { small : l.v < 256 ^ l.b-index; left : number_from l.v (drop l.b-index l.value) ≡ number l.value }

@@ -1,66 +1,37 @@
 -- `converting::survey::survey_of` meets its contract.
 -- Assumes nothing.
-use mathlib.Core.Path.{refl, sym, ◌∙◌}
-use Prim.Native.Nat.{◌≤◌}
-use native.Mathlib.Omega.{arith}
-use lib.ListN.{length}
-use borrow.Author.Tests.{not-true, not-false}
-use Rattle.settings.specs.Slots.{channel}
-use Rattle.converting.proofs.Looking.{look-start, look-bad, behind, look-next, look_end, pack-start, pack-next, pack_end, found-refused}
+use Rattle.std.proofs.Common.{◌≡◌, None, Some, Err, arith, ◌∙◌, length}
+use Rattle.std.proofs.lemmas.Option.{MatchOption-at_none, MatchOption-at_some}
+use Rattle.std.proofs.lemmas.Bool.Decides.{nat_tests}
+use Rattle.refusals.specs.declared.Refusal.TheVariants.{Encoding}
+use Rattle.converting.specs.Parts.{Sound}
+use Rattle.converting.proofs.Looking.{look_start, look_bad, look_next, look_end, pack_start, pack_next, pack_end}
 use Rattle.converting.proofs.survey.survey_of.Goals as goal
 
-pub loop-at-init : goal.loop-at-init
-loop-at-init c = (look-start _ _, refl, λ p. pack-start _ c.args.settings.now c.args.list.now p c.requires.2)
+pub loop-rest-init : goal.loop-rest-init
+loop-rest-init c = record { look = look_start _ _; pack = λ p. pack_start _ c.args.settings.now c.args.list.now p c.requires }
 
-pub shape_of-list-then-not-all_four : goal.shape_of-list-then-not-all_four
-shape_of-list-then-not-all_four c = c.loop-at.invariant.1
+pub returns-in_err-call : goal.returns-in_err-call
+returns-in_err-call c =
+    let none : c.next_encoding.result ≡ None = grind arith in
+    let is : c.from_residual.result ≡ Err (Encoding c.loop-rest.k) = grind arith in
+    let whole = look_bad _ _ _ _ _ _ _ _ c.loop-rest.invariant.look (MatchOption-at_none _ _ none c.next_encoding.ensures) c.args.list.now c.loop-rest.list in
+    record { value = is ∙ whole.0; recorded = whole.1 }
 
-pub returns-then-not-all_four : goal.returns-then-not-all_four
-returns-then-not-all_four c = let whole = found-refused _ _ _ _ _
-    (look-bad _ c.args.settings.now c.loop-at.at c.loop-at.k c.loop-at.n _ _ _ c.loop-at.invariant.0 _ c.encoding_at-got.ensures
-    (sym c.all_four.ensures ∙ not-true c.all_four.result c.if-not-all_four.true-raw)) in record { value = whole.0; recorded = whole.1 }
-
-pub more-m-requires : goal.more-m-requires
-more-m-requires c = c.loop-at.invariant.0.most
-
-pub write_call-kept-requires : goal.write_call-kept-requires
-write_call-kept-requires c = (c.requires.0, c.requires.1, c.more-m.ensures.inside)
-
-pub overflow_add-n : goal.overflow_add-n
-overflow_add-n c = omega (arith, c.more-m.ensures.inside)
-
-pub overflow_add-n-in-loop-at : goal.overflow_add-n-in-loop-at
-overflow_add-n-in-loop-at c = omega (arith, c.more-m.ensures.inside)
-
-pub overflow_add-k : goal.overflow_add-k
-overflow_add-k c = omega (arith, c.loop-at.invariant.0.few, c.loop-at.invariant.0.inside, c.loop-at-test.true)
-
-pub loop-at-smaller : goal.loop-at-smaller
-loop-at-smaller c =
-    let b = behind _ c.args.settings.now c.loop-at.at c.loop-at.k c.loop-at.n _ _ _ c.loop-at.invariant.0 _ c.encoding_at-got.ensures
-    (sym c.all_four.ensures ∙ not-false c.all_four.result c.if-not-all_four.false-raw) in
-    omega (arith, b.0, b.1)
-
-pub loop-at-preserved : goal.loop-at-preserved
-loop-at-preserved c =
-    let ch = channel c.args.microseconds c.args.bytes in
-    let run = c.args.settings.now in
-    let good = sym c.all_four.ensures ∙ not-false c.all_four.result c.if-not-all_four.false-raw in (
-      look-next ch run c.loop-at.at c.loop-at.k c.loop-at.n _ _ _ c.loop-at.invariant.0 _ c.encoding_at-got.ensures good _ c.more-m.ensures c.loop-at.list _ _ c.write_call-kept.ensures
-          _ _ _ _ _ c.all_four-in-loop-at.ensures c.is_whole.ensures c.noted-missing.ensures c.noted-uneven.ensures c.noted-rules.ensures,
-      c.write_call-kept.ensures.same ∙ c.loop-at.invariant.1,
-      λ q. pack-next ch run c.loop-at.at c.loop-at.k c.loop-at.n _ _ _ c.loop-at.invariant.0 _ c.encoding_at-got.ensures good _ c.more-m.ensures c.loop-at.list _ _ c.write_call-kept.ensures
-          q c.args.list.now (c.loop-at.invariant.2 q),
-    )
-
-pub shape_of-list : goal.shape_of-list
-shape_of-list c = c.loop-at.invariant.1
+pub loop-rest-preserved : goal.loop-rest-preserved
+loop-rest-preserved c =
+    let some : c.next_encoding.result ≡ Some (c.in_ok-call.call, c.in_ok-call.behind) = grind arith in
+    let sound : Sound c.loop-rest.rest.now c.in_ok-call.call c.in_ok-call.behind.now = MatchOption-at_some _ _ _ some c.next_encoding.ensures in
+    record {
+      look = look_next _ _ _ _ _ _ _ _ c.loop-rest.invariant.look _ _ sound _ c.more-m.ensures _ _ _ c.write_call-kept.ensures _ _ _ _ _
+          c.is_complete.ensures c.is_whole.ensures c.noted-missing.ensures c.noted-uneven.ensures c.noted-rules.ensures;
+      pack = λ p. pack_next _ _ _ _ _ _ _ _ c.loop-rest.invariant.look _ _ sound _ c.more-m.ensures _ _ _ c.write_call-kept.ensures p c.args.list.now (c.loop-rest.invariant.pack p);
+    }
 
 pub returns : goal.returns
 returns c =
-    let ch = channel c.args.microseconds c.args.bytes in
-    let run = c.args.settings.now in
-    let over : length run ≤ c.loop-at.at = omega (arith, c.loop-at-test.false) in record {
-      value = look_end ch run c.loop-at.at c.loop-at.k c.loop-at.n _ _ _ c.loop-at.invariant.0 over _ c.answered.ensures;
-      recorded = λ q. pack_end ch run c.loop-at.at c.loop-at.k c.loop-at.n _ _ _ c.loop-at.invariant.0 over c.args.list.now c.loop-at.list (c.loop-at.invariant.2 q);
+    let over : length c.loop-rest.rest.now ≡ 0 = grind (arith, nat_tests) in
+    record {
+      value = look_end _ _ _ _ _ _ _ _ c.loop-rest.invariant.look over _ c.answered.ensures;
+      recorded = λ p. pack_end _ _ _ _ _ _ _ _ c.loop-rest.invariant.look over c.args.list.now c.loop-rest.list (c.loop-rest.invariant.pack p);
     }

@@ -1,45 +1,35 @@
-use mathlib.Core.Path.{◌≡◌, refl, sym, ◌∙◌}
-use Prim.Native.Nat.{◌+◌, ◌*◌, ◌%◌, ◌^◌}
-use native.Mathlib.Omega.{arith}
-use native.Mathlib.Nat.{mod-eq_of_lt}
-use lib.ListN.{length, get_or}
+-- `fields::bits::joined` meets its contract. Assumes nothing.
+use Rattle.std.proofs.Common.{◌≡◌, ◌*◌, ◌%◌, ◌^◌, length, sym, ◌∙◌, arith}
+use Rattle.std.proofs.Math.Nat.{mod-eq_of_lt}
+use mathlib.Core.Logic.{◌⊎◌, inl, inr}
 use Rattle.fields.specs.Packed.{join}
 use Rattle.fields.proofs.Turns.{JoinTurn, join_turn, join_end}
-use borrow.Author.Rules.{rules}
 use Rattle.fields.proofs.bits.joined.Goals as goal
-use Rattle.fields.proofs.bits.joined.Goals.{In-loop-k, Start}
+use Rattle.fields.proofs.bits.joined.Goals.{In-Some}
 
-pub loop-k-init : goal.loop-k-init
+pub loop-w-init : goal.loop-w-init
 unfolding join
-loop-k-init c = (omega arith, refl)
+loop-w-init c = cc
 
-pub overflow_shl-n : goal.overflow_shl-n
-overflow_shl-n c = omega (arith, c.requires.narrow.each c.loop-k.k)
-
--- the array of widths has six
-six : (c : Start) → length c.args.widths ≡ 6
-six c = search rules
-
-turn : (c : In-loop-k)
-    → let v = c.loop-k in
-    let a = c.args in
-    JoinTurn a.widths a.values v.k v.n (v.n * 2 ^ get_or a.widths v.k 0 + get_or a.values v.k 0)
+-- after the value is joined
+turn : (c : In-Some) → JoinTurn c.loop-w.n c.in-Some.w.now c.in-Some.v.now c.next.new.self.a.rest.now c.next.new.self.b.rest.now (join c.args.widths c.args.values)
 turn c =
-    let v = c.loop-k in
-    join_turn c.args.widths c.args.values v.n v.k c.requires.fit c.requires.narrow.whole (omega (arith, six c.before.before)) v.invariant.1
+    let steps = c.in-Some.ensures.steps in
+    join_turn c.args.widths c.args.values c.loop-w.n c.in-Some.w.now c.in-Some.v.now c.next.new.self.a.rest.now c.next.new.self.b.rest.now
+    c.requires.fit c.requires.narrow.whole (rw (steps.0, steps.1) at c.loop-w.invariant)
 
 -- nothing is shifted out
-whole : (c : In-loop-k)
-    → let v = c.loop-k in
-    let a = c.args in
-    v.n * 2 ^ get_or a.widths v.k 0 % 2 ^ 64 ≡ v.n * 2 ^ get_or a.widths v.k 0
-whole c = mod-eq_of_lt (omega (arith, (turn c).1))
+whole : (c : In-Some) → c.loop-w.n * 2 ^ c.in-Some.w.now % 2 ^ 64 ≡ c.loop-w.n * 2 ^ c.in-Some.w.now
+whole c = mod-eq_of_lt (omega (arith, (turn c).0))
 
 pub overflow_add-n : goal.overflow_add-n
-overflow_add-n c = rw (whole (goal.at.overflow_add-n c).In-loop-k) (record { fits = (turn (goal.at.overflow_add-n c).In-loop-k).1 })
+overflow_add-n c = rw (whole (goal.at.overflow_add-n c).In-Some, c.from.ensures) (record { fits = (turn (goal.at.overflow_add-n c).In-Some).0 })
 
-pub loop-k-preserved : goal.loop-k-preserved
-loop-k-preserved c = (omega arith, rw (whole (goal.at.loop-k-preserved c).In-loop-k) (turn (goal.at.loop-k-preserved c).In-loop-k).2)
+pub loop-w-preserved : goal.loop-w-preserved
+loop-w-preserved c = rw (whole (goal.at.loop-w-preserved c).In-Some, c.from.ensures) (turn (goal.at.loop-w-preserved c).In-Some).1
 
 pub returns : goal.returns
-returns c = sym (join_end _ c.args.widths _ c.loop-k.k (omega (arith, six (goal.at.returns c).Start))) ∙ c.loop-k.invariant.1
+returns c =
+    let rest = c.loop-w.w-iterator in
+    let none : (length rest.a.rest.now ≡ 0) ⊎ (length rest.b.rest.now ≡ 0) = elim c.in-None.ensures.steps [ inl a ↦ inl a.1.0 | inr b ↦ inr b.1.0 ] in
+    sym (join_end c.loop-w.n rest.a.rest.now rest.b.rest.now none) ∙ c.loop-w.invariant

@@ -1,8 +1,7 @@
-use mathlib.Core.Path.{◌≡◌}
-use Prim.Native.Nat.{◌≤◌}
-use lib.ListN.{drop}
+-- What the values that are left make behind n is what all of them make. Assumes nothing.
+use Rattle.std.proofs.Common.{◌≡◌}
 use Rattle.fields.specs.Packed.{join_from, join}
 use Rattle.fields.proofs.bits.joined.Given as goal
 
-abbrev pub invariant-loop-k : goal.invariant-loop-k
-invariant-loop-k l = (l.k ≤ 6) × (join_from l.n (drop l.k l.widths) (drop l.k l.values) ≡ join l.widths l.values)
+abbrev pub invariant-loop-w : goal.invariant-loop-w
+invariant-loop-w l = join_from l.n l.w-iterator.a.rest.now l.w-iterator.b.rest.now ≡ join l.fn.widths l.fn.values

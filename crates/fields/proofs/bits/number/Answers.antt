@@ -1,40 +1,32 @@
--- `fields::number` meets its contract: what the bytes that are left make behind n is what all of them make.
--- Assumes nothing.
-use mathlib.Core.Path.{refl, sym, ◌∙◌}
-use Prim.Native.Nat.{◌+◌, ◌*◌}
-use native.Mathlib.Omega.{arith}
-use lib.ListN.{length, get_or}
+-- `fields::bits::number` meets its contract. Assumes nothing.
+use Rattle.std.proofs.Common.{◌+◌, refl, sym, ◌∙◌, length, get_or, drop, length-drop, arith}
 use Rattle.fields.specs.Packed.{join, eights}
 use Rattle.fields.proofs.Turns.{JoinTurn, byte_turn, join_end}
-use Rattle.fields.proofs.Packed.{length-eights}
+use mathlib.Core.Logic.{inr}
 use Rattle.fields.proofs.bits.number.Goals as goal
-use Rattle.fields.proofs.bits.number.Goals.{After-shared_slice_known-1}
+use Rattle.fields.proofs.bits.number.Goals.{In-loop-b}
 
-pub loop-i-init : goal.loop-i-init
+pub loop-b-init : goal.loop-b-init
 unfolding join
-loop-i-init c = (omega arith, refl, refl)
-
-pub overflow_cast-b : goal.overflow_cast-b
-overflow_cast-b c = omega (arith, c.shared_slice_known-1.given c.loop-i.i)
+loop-b-init c = refl
 
 -- after the byte is read
-turn : (c : After-shared_slice_known-1)
-    → JoinTurn (eights (length c.args.s.now)) c.args.s.now c.loop-i.i
-    c.loop-i.n (c.loop-i.n * 256 + get_or c.args.s.now c.loop-i.i 0)
-turn c =
-    let s = c.args.s.now in
-    byte_turn s c.loop-i.n c.loop-i.i (λ j. (c.shared_slice_known-1.given j).fits) (omega arith) (omega arith) c.loop-i.invariant.2
+turn : (c : In-loop-b)
+    → let s = c.args.s.now in let i = c.loop-b.b-index in
+    JoinTurn c.loop-b.n 8 (get_or s i 0) (drop (i + 1) (eights (length s))) (drop (i + 1) s) (join (eights (length s)) s)
+turn c = byte_turn c.args.s.now c.loop-b.n c.loop-b.b-index (λ j. (c.type_inv.s j).fits) (omega arith) (omega arith) c.loop-b.invariant
 
 pub overflow_mul-n : goal.overflow_mul-n
-overflow_mul-n c = omega (arith, (turn (goal.at.overflow_mul-n c).After-shared_slice_known-1).1)
+overflow_mul-n c = omega (arith, (turn (goal.at.overflow_mul-n c).In-loop-b).0)
 
 pub overflow_add-n : goal.overflow_add-n
-overflow_add-n c = omega (arith, (turn (goal.at.overflow_add-n c).After-shared_slice_known-1).1)
+overflow_add-n c = omega (arith, (turn (goal.at.overflow_add-n c).In-loop-b).0)
 
-pub loop-i-preserved : goal.loop-i-preserved
-loop-i-preserved c = (omega arith, refl, (turn (goal.at.loop-i-preserved c).After-shared_slice_known-1).2)
+pub loop-b-preserved : goal.loop-b-preserved
+loop-b-preserved c = rw c.from.ensures (turn (goal.at.loop-b-preserved c).In-loop-b).1
 
 pub returns : goal.returns
 returns c =
     let s = c.args.s.now in
-    sym (join_end _ (eights (length s)) _ c.loop-i.i (omega (arith, length-eights (length s)))) ∙ c.loop-i.invariant.2
+    let i = c.loop-b.b-index in
+    sym (join_end c.loop-b.n (drop i (eights (length s))) (drop i s) (inr (simp length-drop (omega arith)))) ∙ c.loop-b.invariant

@@ -1,13 +1,8 @@
-use mathlib.Core.Path.{◌≡◌}
-use Prim.Native.Nat.{◌≤◌, ◌/◌, ◌^◌}
-use lib.ListN.{length, drop}
-use Rattle.fields.specs.Packed.{split, total, eights}
+-- The bytes behind k are put, and what is left stands before them. Assumes nothing.
+use Rattle.std.proofs.Common.{◌≡◌, ◌/◌, ◌^◌, length, drop}
+use Rattle.fields.specs.Packed.{total, split, eights}
 use Rattle.fields.proofs.bits.put.Given as goal
 
 abbrev pub invariant-loop-k : goal.invariant-loop-k
 invariant-loop-k l =
-    (l.k ≤ length l.initial.out) × (length l.out ≡ length l.initial.out)
-    × (l.left ≡ l.n / 2 ^ total (drop l.k (eights (length l.initial.out)))) × (drop l.k l.out ≡ split (drop l.k (eights (length l.initial.out))) l.n)
-
-abbrev pub decreases-loop-k : goal.decreases-loop-k
-decreases-loop-k l = l.k
+    (l.left ≡ l.n / 2 ^ total (drop l.k (eights (length l.fn.out)))) × (drop l.k l.out ≡ split (drop l.k (eights (length l.fn.out))) l.n)

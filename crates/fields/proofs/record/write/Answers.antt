@@ -13,8 +13,8 @@ use Rattle.fields.proofs.Records.{ends-wide, ends_short, ends-put}
 use Rattle.fields.proofs.record.write.Goals as goal
 use Rattle.fields.proofs.record.write.Goals.{After-all_fit}
 
-pub returns-then-room-k : goal.returns-then-room-k
-returns-then-room-k c =
+pub returns-then-room-size : goal.returns-then-room-size
+returns-then-room-size c =
     let a = c.args in
     let whole = ends_short a.kind a.values a.room.now (omega arith) in record { value = whole.0; room_after = whole.1 }
 
@@ -41,6 +41,6 @@ joined-n-requires c =
 pub returns : goal.returns
 returns c =
     let a = c.args in
-    let whole = ends-put a.kind a.values a.room.now c.bytes-k.result c.widths-widths.result c.joined-n.result c.put.new.out
-    c.bytes-k.ensures c.widths-widths.ensures (test (goal.at.returns c).After-all_fit true c.if-not-all_fit.false) (omega arith)
+    let whole = ends-put a.kind a.values a.room.now c.bytes-size.result c.widths-widths.result c.joined-n.result c.put.new.out
+    c.bytes-size.ensures c.widths-widths.ensures (test (goal.at.returns c).After-all_fit true c.if-not-all_fit.false) (omega arith)
     c.joined-n.ensures c.put.ensures in record { value = whole.0; room_after = whole.1 }

@@ -1,184 +1,136 @@
 -- `planner::groups::place_all` meets its contract. Assumes nothing.
-use mathlib.Core.Path.{◌≡◌, refl, sym, ap, ◌∙◌}
-use mathlib.Core.List.{[], ◌∷◌, ◌++◌}
-use Prim.Native.Nat.{◌-◌, ◌/◌, ◌≤◌}
-use native.Mathlib.Nat.{sub-zero}
-use native.Mathlib.Omega.{arith}
-use lib.ListN.{length, take, drop}
-use lib.Seq.{length_front, length-take-le}
+use Rattle.std.proofs.Common.{rules, Err, ◌≡◌, refl, sym, ap, ◌∙◌, Some, None, [], ◌∷◌, ◌++◌, ◌/◌, ◌≤◌, length, take, arith, length-take-le}
 use Rattle.lists.specs.Lists.{flows_of}
 use Rattle.planner.specs.Intervals.{next_interval}
 use Rattle.planner.specs.State.{Ready}
 use Rattle.lists.proofs.Cycle.{frame_pos}
 use Rattle.planner.proofs.Bounds.{frames_le}
-use Rattle.planner.proofs.Grouping.{no_frame-not-lawful}
 use Rattle.planner.proofs.Growing.{grown_all, grown_start}
-use Rattle.planner.proofs.Ordering.{coming-start, coming-none, Next, group-next}
+use Rattle.planner.proofs.Ordering.{Coming, coming-none, Next, group-next}
 use Rattle.planner.proofs.Reaching.{Upto, upto_start, ready_on, refused_on, next_on, upto_end}
 use Rattle.planner.proofs.Housing.{housed_on}
 use Rattle.planner.proofs.groups.place_all.Goals as goal
-use Rattle.planner.proofs.groups.place_all.Goals.{After-add_group-placed, After-group_at-group, Start}
+use Rattle.planner.proofs.groups.place_all.Goals.{After-from-window, At-loop-interval, In-Some}
 
 -- the group that is next in the order, and its interval
-next : (c : After-group_at-group) → let a = c.args in let v = c.loop-start in
-    Next a.list.now a.order.now v.start v.invariant.4.0 c.group_at-group.result.interval c.group_at-group.result.end
+next : (c : In-Some) → Next c.args.list.now c.loop-interval.invariant.1.0 c.in-Some.interval c.in-Some.group.now c.next.new.self.order.now
 next c =
-    let a = c.args in
-    let v = c.loop-start in
-    let r = v.invariant.4 in
-    group-next a.list.now a.order.now v.start r.0 c.group_at-group.result.interval c.group_at-group.result.end r.4 (λ n. (r.5.grown.next n).1) c.loop-start-test.true c.group_at-group.ensures.interval_value c.group_at-group.ensures.end_value
+    let v = c.loop-interval in
+    let r = v.invariant.1 in
+    group-next c.args.list.now v.interval-iterator.order.now r.0 c.in-Some.interval c.in-Some.group.now c.next.new.self.order.now r.4 (λ j e. (r.5.grown.next j e).1) (rw v.invariant.0 at c.in-Some.ensures.steps.1)
 
-upto : (c : After-group_at-group) → let a = c.args in let v = c.loop-start in
-    Upto a.frame c.group_at-group.result.interval v.invariant.4.1 v.width (flows_of a.list.now) v.invariant.4.2 v.invariant.4.3 v.contents v.limits v.frames v.bases
-upto c = rw (next c).interval c.loop-start.invariant.4.5
+upto : (c : In-Some) → let v = c.loop-interval in let r = v.invariant.1 in
+    Upto c.args.frame (Some c.in-Some.interval) r.1 v.width (flows_of c.args.list.now) r.2 r.3 v.contents v.limits v.frames v.bases
+upto c = rw (next c).interval c.loop-interval.invariant.1.5
 
 -- there are 256 frames
-full : (c : Start) → (256 ≡ length c.args.contents.now) × (256 ≡ length c.args.limits.now)
-full c = (sym (ap length c.requires.contents_value.0), sym (ap length c.requires.contents_value.1))
+full : (c : At-loop-interval) → (length c.loop-interval.contents ≡ 256) × (length c.loop-interval.limits ≡ 256)
+full c = (c.loop-interval.auto.contents ∙ ap length c.requires.empty.0, c.loop-interval.auto.limits ∙ ap length c.requires.empty.1)
 
 -- the window of the next group is one of the frames that there are
-fits : (c : After-group_at-group) → c.group_at-group.result.interval / c.args.frame ≤ 256
-fits c = rw c.requires.accepted.1 (frames_le (flows_of c.args.list.now) c.requires.accepted.0 c.group_at-group.result.interval ((upto c).grown.next (next c).some).1)
+inside : (c : After-from-window) → c.from-window.result ≤ 256
+inside c =
+    let i = (goal.at.After-from-window c).In-Some in
+    rw (c.from-window.ensures, c.requires.accepted.1) (frames_le (flows_of c.args.list.now) c.requires.accepted.0 c.in-Some.interval ((upto i).grown.next _ refl).1)
 
 -- and the groups before it are placed there
-ready : (c : After-group_at-group) → let a = c.args in let v = c.loop-start in let i = c.group_at-group.result.interval in
-    Ready a.frame i v.width (flows_of a.list.now) (take (i / a.frame - 0) v.contents) (take (i / a.frame - 0) v.limits) v.frames v.bases
+ready : (c : After-from-window) → let a = c.args in let v = c.loop-interval in let w = c.from-window.result in
+    Ready a.frame c.in-Some.interval v.width (flows_of a.list.now) (take w v.contents) (take w v.limits) v.frames v.bases
 ready c =
-    let v = c.loop-start in
-    ready_on c.requires.accepted.0 (upto c) (next c).some c.requires.accepted.1 (c.group_at-group.result.interval / c.args.frame - 0) (sub-zero _) v.invariant.0 v.invariant.1
+    let full = full (goal.at.After-from-window c).At-loop-interval in
+    ready_on c.requires.accepted.0 (upto (goal.at.After-from-window c).In-Some) c.requires.accepted.1 c.from-window.result c.from-window.ensures full.0 full.1
 
--- a group keeps the cells
-kept : (c : After-add_group-placed) → let v = c.loop-start in let a = c.args in let l = c.add_group-placed.new in
-    let part = c.group_at-group.result.interval / a.frame - 0 in
-    (length (l.contents ++ drop part v.contents) ≡ 256) × (length (l.limits ++ drop part v.limits) ≡ 256)
-    × (length l.frames ≡ length a.frames.now) × (length l.bases ≡ length a.bases.now)
-kept c =
-    let v = c.loop-start in
-    let l = c.add_group-placed.new in
-    let k = c.add_group-placed.auto in
-    let part = c.group_at-group.result.interval / c.args.frame - 0 in (
-      length_front v.contents l.contents part k.contents ∙ v.invariant.0,
-      length_front v.limits l.limits part k.limits ∙ v.invariant.1,
-      k.frames ∙ v.invariant.2,
-      k.bases ∙ v.invariant.3,
-    )
-
-pub loop-start-init : goal.loop-start-init
-loop-start-init c =
+pub loop-interval-init : goal.loop-interval-init
+loop-interval-init c =
     let a = c.args in
     let fs = flows_of a.list.now in
-    let f = c.requires.accepted.1 in (
-      ap length c.requires.contents_value.0,
-      ap length c.requires.contents_value.1,
-      refl,
-      refl,
+    let f = c.requires.accepted.1 in
+    let all : Coming a.list.now (Some a.frame) a.order.now = rw (f, (grown_start fs c.requires.accepted.0).order) c.requires.ordered in (
+      rw c.into_iter-interval-iterator.ensures.into_iter_gives refl,
       (
-        a.frame,
+        Some a.frame,
         a.frame,
         [],
         [] ∷ [],
-        coming-start a.list.now a.order.now a.frame c.requires.list_in_bounds.2 (rw f (grown_start fs c.requires.accepted.0).order),
-        rw f (upto_start fs a.contents.now a.limits.now a.frames.now a.bases.now c.requires.accepted.0 (ap (take 1) c.requires.contents_value.0) (ap (take 1) c.requires.contents_value.1)),
+        rw c.into_iter-interval-iterator.ensures.into_iter_gives all,
+        rw f (upto_start fs a.contents.now a.limits.now a.frames.now a.bases.now c.requires.accepted.0 (ap (take 1) c.requires.empty.0) (ap (take 1) c.requires.empty.1)),
         tt,
       ),
     )
 
-pub nonzero_div-window : goal.nonzero_div-window
-nonzero_div-window c = omega (arith, frame_pos (flows_of c.args.list.now) c.requires.accepted.0, c.requires.accepted.1)
-
-pub overflow_cast-window : goal.overflow_cast-window
-overflow_cast-window c = omega (arith, fits (goal.at.overflow_cast-window c).After-group_at-group)
-
-pub slice_bounds-add_group-count : goal.slice_bounds-add_group-count
-slice_bounds-add_group-count c = omega (arith, (next (goal.at.slice_bounds-add_group-count c).After-group_at-group).more)
-
-pub slice_bounds-add_group-start : goal.slice_bounds-add_group-start
-slice_bounds-add_group-start c = omega (arith, (next (goal.at.slice_bounds-add_group-start c).After-group_at-group).more)
+pub nonzero_div-interval : goal.nonzero_div-interval
+nonzero_div-interval c = omega (arith, frame_pos (flows_of c.args.list.now) c.requires.accepted.0, c.requires.accepted.1)
 
 pub slice_bounds-add_group-end : goal.slice_bounds-add_group-end
-slice_bounds-add_group-end c = omega (arith, (next (goal.at.slice_bounds-add_group-end c).After-group_at-group).fits)
+slice_bounds-add_group-end c = omega (arith, inside (goal.at.slice_bounds-add_group-end c).After-from-window, full (goal.at.slice_bounds-add_group-end c).At-loop-interval)
 
-pub slice_bounds-add_group-end-in-loop-start : goal.slice_bounds-add_group-end-in-loop-start
-slice_bounds-add_group-end-in-loop-start c = omega (arith, fits (goal.at.slice_bounds-add_group-end-in-loop-start c).After-group_at-group, c.loop-start.invariant.0)
+pub slice_bounds-add_group-end-in-loop-interval : goal.slice_bounds-add_group-end-in-loop-interval
+slice_bounds-add_group-end-in-loop-interval c =
+    let g = goal.at.slice_bounds-add_group-end-in-loop-interval c in
+    sym (length-take-le c.from-window.result c.loop-interval.contents (omega (arith, inside g.After-from-window, full g.At-loop-interval)))
 
-pub add_group-placed-requires : goal.add_group-placed-requires
-add_group-placed-requires c =
-    let v = c.loop-start in record {
-      list_in_bounds = (rw v.invariant.2 c.requires.list_in_bounds.0, rw v.invariant.3 c.requires.list_in_bounds.1);
-      by_index = (c.group_at-group.result.interval, (next (goal.at.add_group-placed-requires c).After-group_at-group).members, ready (goal.at.add_group-placed-requires c).After-group_at-group);
-    }
+pub slice_bounds-add_group-end-in-loop-interval-2 : goal.slice_bounds-add_group-end-in-loop-interval-2
+slice_bounds-add_group-end-in-loop-interval-2 c =
+    let g = goal.at.slice_bounds-add_group-end-in-loop-interval-2 c in
+    omega (arith, inside g.After-from-window, full g.At-loop-interval)
 
-pub shape_of-contents-in-NoFrame : goal.shape_of-contents-in-NoFrame
-shape_of-contents-in-NoFrame c = (kept (goal.at.shape_of-contents-in-NoFrame c).After-add_group-placed).0 ∙ (full (goal.at.shape_of-contents-in-NoFrame c).Start).0
+pub slice_bounds-add_group-end-in-loop-interval-3 : goal.slice_bounds-add_group-end-in-loop-interval-3
+slice_bounds-add_group-end-in-loop-interval-3 c =
+    let g = goal.at.slice_bounds-add_group-end-in-loop-interval-3 c in
+    sym (length-take-le c.from-window.result c.loop-interval.limits (omega (arith, inside g.After-from-window, full g.At-loop-interval)))
 
-pub shape_of-limits-in-NoFrame : goal.shape_of-limits-in-NoFrame
-shape_of-limits-in-NoFrame c = (kept (goal.at.shape_of-limits-in-NoFrame c).After-add_group-placed).1 ∙ (full (goal.at.shape_of-limits-in-NoFrame c).Start).1
+pub add_group-requires-clause-ready : goal.add_group-requires-clause-ready
+add_group-requires-clause-ready c =
+    let g = goal.at.add_group-requires-clause-ready c in
+    (c.in-Some.interval, (next g.In-Some).members, ready g.After-from-window)
 
-pub shape_of-frames-in-NoFrame : goal.shape_of-frames-in-NoFrame
-shape_of-frames-in-NoFrame c = (kept (goal.at.shape_of-frames-in-NoFrame c).After-add_group-placed).2
+pub returns-in_err-add_group-clause-finished : goal.returns-in_err-add_group-clause-finished
+returns-in_err-add_group-clause-finished c =
+    let g = goal.at.returns-in_err-add_group-clause-finished c in
+    let full = full g.At-loop-interval in
+    let p = c.in_err-add_group.field-0.0 in
+    let r : c.from_residual.result ≡ Err p = search rules in
+    rw r (refused_on c.requires.accepted.0 (upto g.In-Some) c.requires.accepted.1 c.from-window.result c.from-window.ensures full.0 full.1
+    p c.add_group.result _ _ _ _ _ _ (c.add_group.ensures.added c.in-Some.interval (next g.In-Some).members) c.in_err-add_group.was)
 
-pub shape_of-bases-in-NoFrame : goal.shape_of-bases-in-NoFrame
-shape_of-bases-in-NoFrame c = (kept (goal.at.shape_of-bases-in-NoFrame c).After-add_group-placed).3
-
-pub returns-in-NoFrame : goal.returns-in-NoFrame
-returns-in-NoFrame c =
-    let v = c.loop-start in record {
-      finished = refused_on c.requires.accepted.0 (upto (goal.at.returns-in-NoFrame c).After-group_at-group) (next (goal.at.returns-in-NoFrame c).After-group_at-group).some c.requires.accepted.1 (c.group_at-group.result.interval / c.args.frame - 0) (sub-zero _) v.invariant.0 v.invariant.1
-          c.in-NoFrame.p c.add_group-placed.result _ _ _ _ _ _ (c.add_group-placed.ensures.by_index_2 c.group_at-group.result.interval (next (goal.at.returns-in-NoFrame c).After-group_at-group).members) c.in-NoFrame.is;
-      all = no_frame-not-lawful;
-    }
-
-pub loop-start-smaller : goal.loop-start-smaller
-loop-start-smaller c = omega (arith, (next (goal.at.loop-start-smaller c).After-group_at-group).more, (next (goal.at.loop-start-smaller c).After-group_at-group).fits)
-
-pub loop-start-preserved : goal.loop-start-preserved
-loop-start-preserved c =
-    let i = c.group_at-group.result.interval in
-    let v = c.loop-start in
+pub loop-interval-preserved : goal.loop-interval-preserved
+loop-interval-preserved c =
     let a = c.args in
-    let part = i / a.frame - 0 in
-    let l = c.add_group-placed.new in
-    let k = c.add_group-placed.auto in
-    let m = (next (goal.at.loop-start-preserved c).After-group_at-group).members in
-    let lawful = c.in_default.is in
-    let wide : length (take part v.contents) ≡ i / a.frame = length-take-le part v.contents (omega (arith, fits (goal.at.loop-start-preserved c).After-group_at-group, v.invariant.0)) ∙ sub-zero _ in
+    let v = c.loop-interval in
+    let r = v.invariant.1 in
+    let i = c.in-Some.interval in
+    let w = c.from-window.result in
+    let l = c.add_group.new in
+    let g = goal.at.loop-interval-preserved c in
+    let full = full g.At-loop-interval in
+    let turn = next g.In-Some in
+    let lawful = c.in_ok-add_group.was in
+    let wide : length (take w v.contents) ≡ i / a.frame = length-take-le w v.contents (omega (arith, inside g.After-from-window, full)) ∙ c.from-window.ensures in
     let on =
-    next_on c.requires.accepted.0 (upto (goal.at.loop-start-preserved c).After-group_at-group) (next (goal.at.loop-start-preserved c).After-group_at-group).some c.requires.accepted.1 part (sub-zero _) v.invariant.0 v.invariant.1
-    c.add_group-placed.result l.contents l.limits l.frames l.bases k.contents k.limits (c.add_group-placed.ensures.by_index_2 i m) lawful in (
-      (kept (goal.at.loop-start-preserved c).After-add_group-placed).0,
-      (kept (goal.at.loop-start-preserved c).After-add_group-placed).1,
-      (kept (goal.at.loop-start-preserved c).After-add_group-placed).2,
-      (kept (goal.at.loop-start-preserved c).After-add_group-placed).3,
+    next_on c.requires.accepted.0 (upto g.In-Some) c.requires.accepted.1 w c.from-window.ensures full.0 full.1
+    c.add_group.result l.contents l.limits l.frames l.bases c.add_group.auto.contents c.add_group.auto.limits (c.add_group.ensures.added i turn.members) lawful in (
+      cc,
       (
-        next_interval i 0 (flows_of a.list.now),
+        next_interval i None (flows_of a.list.now),
         i,
-        v.invariant.4.2 ++ (i ∷ []),
+        r.2 ++ (i ∷ []),
         on.0,
-        (next (goal.at.loop-start-preserved c).After-group_at-group).behind,
+        turn.behind,
         on.1,
-        housed_on a.frame v.width i a.list.now v.frames l.frames v.invariant.4.2 ((upto (goal.at.loop-start-preserved c).After-group_at-group).grown.next (next (goal.at.loop-start-preserved c).After-group_at-group).some).2 v.invariant.4.6 (fits (goal.at.loop-start-preserved c).After-group_at-group)
-            (rw wide at (c.add_group-placed.ensures.by_index_3 i m (ready (goal.at.loop-start-preserved c).After-group_at-group) lawful)),
+        housed_on a.frame v.width i a.list.now v.frames l.frames r.2 ((upto g.In-Some).grown.next _ refl).2 r.6 (rw c.from-window.ensures at (inside g.After-from-window))
+            (rw wide at (c.add_group.ensures.taken i turn.members (ready g.After-from-window) lawful)),
       ),
     )
 
-pub shape_of-contents : goal.shape_of-contents
-shape_of-contents c = c.loop-start.invariant.0 ∙ (full (goal.at.shape_of-contents c).Start).0
+-- all groups are placed
+all : (c : goal.In-None) → c.loop-interval.invariant.1.0 ≡ None
+all c =
+    let v = c.loop-interval in
+    let r = v.invariant.1 in
+    coming-none c.args.list.now v.interval-iterator.order.now r.0 r.4 (λ j e. (r.5.grown.next j e).1) c.in-None.ensures.steps.1
 
-pub shape_of-limits : goal.shape_of-limits
-shape_of-limits c = c.loop-start.invariant.1 ∙ (full (goal.at.shape_of-limits c).Start).1
+pub returns-clause-finished : goal.returns-clause-finished
+returns-clause-finished c = upto_end c.loop-interval.invariant.1.5 (all c)
 
-pub shape_of-frames : goal.shape_of-frames
-shape_of-frames c = c.loop-start.invariant.2
-
-pub shape_of-bases : goal.shape_of-bases
-shape_of-bases c = c.loop-start.invariant.3
-
-pub returns : goal.returns
-returns c =
-    let v = c.loop-start in
-    let a = c.args in
-    let r = v.invariant.4 in
-    let z : r.0 ≡ 0 = coming-none a.list.now a.order.now v.start r.0 r.4 (λ n. (r.5.grown.next n).1) (omega arith) in record {
-      finished = upto_end r.5 z;
-      all = λ e. rw (sym (grown_all r.5.grown z)) r.6;
-    }
+pub returns-clause-housed : goal.returns-clause-housed
+returns-clause-housed c = λ e. let r = c.loop-interval.invariant.1 in rw (sym (grown_all r.5.grown (all c))) r.6

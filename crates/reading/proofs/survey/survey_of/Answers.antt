@@ -2,9 +2,10 @@
 -- Assumes nothing.
 use mathlib.Core.Path.{◌≡◌, refl, ap, ◌∙◌}
 use native.Mathlib.Omega.{arith}
+use Rattle.std.proofs.lemmas.Result.{err_from_is_err_and}
 use lib.ListN.{length}
 use Rattle.logic.specs.Numbers.{among}
-use Rattle.refusals.specs.declared.Checked.TheVariants.{Passed}
+use Rattle.refusals.specs.Results.{Passed}
 use Rattle.lists.specs.Tests.{test4}
 use Rattle.lists.proofs.Verdicts.{count-refused, count_passed}
 use Rattle.sheets.specs.Readings.{flows_in}
@@ -21,33 +22,24 @@ loop-at-init c =
     let sheet = c.args.sheet.now in
     (look-start sheet, refl, λ p. pack-start sheet c.args.list.now (sound sheet p) c.requires)
 
-pub overflow_add-result : goal.overflow_add-result
-overflow_add-result c = omega (arith, c.loop-at.invariant.0.few, c.loop-at-test.true)
-
-pub shape_of-list-in_default : goal.shape_of-list-in_default
-shape_of-list-in_default c = c.loop-at.invariant.1
-
 pub returns-in_default : goal.returns-in_default
 returns-in_default c =
     let s = c.args in
     let whole = found-refused s.sheet.now s.list.now _ _
     (form_answers s.sheet.now _
-    (look-bad s.sheet.now c.loop-at.at c.loop-at.n c.loop-at.rules c.loop-at.invariant.0 _ c.line_at-got.ensures c.loop-at-test.true c.in_default.is)) in record { value = whole.0; recorded = whole.1 }
-
-pub overflow_add-n : goal.overflow_add-n
-overflow_add-n c = omega (arith, c.loop-at.invariant.0.few, c.loop-at-test.true)
+    (look-bad s.sheet.now c.loop-at.at c.loop-at.n c.loop-at.rules c.loop-at.invariant.0 c.loop-at-test.true c.in_default.ensures)) in record { value = whole.0; recorded = whole.1 }
 
 pub loop-at-smaller : goal.loop-at-smaller
 loop-at-smaller c =
-    let w = line-within c.args.sheet.now _ _ c.line_at-got.ensures _ c.in-Of.is in
+    let w = line-within c.args.sheet.now _ _ _ c.in-Some.ensures in
     omega (arith, w.0, w.1)
 
 pub loop-at-preserved : goal.loop-at-preserved
 loop-at-preserved c =
     let s = c.args in (
-      look-next s.sheet.now c.loop-at.at c.loop-at.n c.loop-at.rules c.loop-at.invariant.0 _ c.line_at-got.ensures _ _ c.in-Of.is c.ruled-rules.ensures,
+      look-next s.sheet.now c.loop-at.at c.loop-at.n c.loop-at.rules c.loop-at.invariant.0 _ _ c.in-Some.ensures _ (rw c.keeps.ensures at c.noted-rules.ensures),
       c.write_record.auto.room ∙ c.loop-at.invariant.1,
-      λ q. pack-next s.sheet.now s.list.now c.loop-at.at c.loop-at.n c.loop-at.list (c.loop-at.invariant.2 q) _ c.line_at-got.ensures _ c.in-Of.is
+      λ q. pack-next s.sheet.now s.list.now c.loop-at.at c.loop-at.n c.loop-at.list (c.loop-at.invariant.2 q) _ _ c.in-Some.ensures
           c.write_record.new.room c.write_record.auto.room c.write_record.ensures.room_after,
     )
 
@@ -66,25 +58,19 @@ rule c =
     let end = seen (goal.at.Else-not-few c).After-loop-at in
     rule-answers _ end.1 (count_passed _ _ (asked (goal.at.Else-not-few c).After-few) c.if-not-few.false) ∙ end.2
 
-pub shape_of-list-then-not-few : goal.shape_of-list-then-not-few
-shape_of-list-then-not-few c = c.loop-at.invariant.1
-
 pub returns-then-not-few : goal.returns-then-not-few
 returns-then-not-few c = let whole = found-refused _ c.args.list.now _ _
     (count-answers _ (seen (goal.at.returns-then-not-few c).After-loop-at).1 _ (count-refused _ _ (asked (goal.at.returns-then-not-few c).After-few) c.if-not-few.true)) in record { value = whole.0; recorded = whole.1 }
 
-pub shape_of-list-in-Refused : goal.shape_of-list-in-Refused
-shape_of-list-in-Refused c = c.loop-at.invariant.1
-
-pub returns-in-Refused : goal.returns-in-Refused
-returns-in-Refused c = let whole = found-refused _ c.args.list.now _ _ (rule (goal.at.returns-in-Refused c).Else-not-few ∙ c.in-Refused.is) in record { value = whole.0; recorded = whole.1 }
-
-pub shape_of-list : goal.shape_of-list
-shape_of-list c = c.loop-at.invariant.1
+pub returns-in_err-rules : goal.returns-in_err-rules
+returns-in_err-rules c =
+    let out = err_from_is_err_and c.from_residual.result c.from_residual.ensures.1 in
+    let whole = found-refused _ c.args.list.now c.loop-at.list _ (rule (goal.at.returns-in_err-rules c).Else-not-few ∙ c.in_err-rules.was) in
+    record { value = rw (out.1, out.2) whole.0; recorded = whole.1 }
 
 pub returns : goal.returns
 returns c =
     let s = c.args in record {
-      value = found-lines _ _ (rule (goal.at.returns c).Else-not-few ∙ c.in_default-rules.is) (seen (goal.at.returns c).After-loop-at).0;
+      value = found-lines _ _ (rule (goal.at.returns c).Else-not-few ∙ c.in_ok-rules.was) (seen (goal.at.returns c).After-loop-at).0;
       recorded = λ p. pack_end s.sheet.now s.list.now _ _ c.loop-at.list (c.loop-at.invariant.2 p) (omega (arith, c.loop-at-test.false));
     }

@@ -3,7 +3,7 @@
 use mathlib.Core.Path.{◌≡◌}
 use Prim.Native.Nat.{◌-◌}
 use lib.ListN.{length}
-use Rattle.refusals.specs.declared.Checked.TheVariants.{Passed}
+use Rattle.refusals.specs.Results.{Passed}
 use Rattle.sheets.specs.Tests.{sheet_tests}
 use Rattle.sheets.proofs.Looks.{LookAt}
 use Rattle.sheets.proofs.Packing.{PackAt}

@@ -1,10 +1,9 @@
 -- `tables::form::record_tests` meets its contract.
 -- Assumes nothing.
-use mathlib.Core.Path.{◌≡◌}
-use Prim.Native.Nat.{◌≤◌}
+use Rattle.std.proofs.Common.{◌≡◌}
 use Rattle.tables.specs.Parts.{record_tests}
 use Rattle.tables.proofs.Walk.{records_from}
 use Rattle.tables.proofs.form.record_tests.Given as goal
 
 abbrev pub invariant-loop-i : goal.invariant-loop-i
-invariant-loop-i l = (l.i ≤ l.n) × (records_from l.least l.table l.i l.n ≡ record_tests l.table l.n)
+invariant-loop-i l = records_from l.least l.table l.i l.n ≡ record_tests l.table l.n

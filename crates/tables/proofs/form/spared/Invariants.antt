@@ -7,6 +7,3 @@ use Rattle.tables.proofs.form.spared.Given as goal
 
 abbrev pub invariant-loop-i : goal.invariant-loop-i
 invariant-loop-i l = spared l.table l.i (l.n - l.i) ≡ spared l.table l.from (l.n - l.from)
-
-abbrev pub decreases-loop-i : goal.decreases-loop-i
-decreases-loop-i l = l.n - l.i

@@ -1,8 +1,7 @@
 -- `windows::stretch::grants_before` meets its contract.
 -- Assumes nothing.
-use mathlib.Core.Path.{◌≡◌}
-use Prim.Native.Nat.{◌-◌, ◌≤◌}
-use Rattle.refusals.specs.declared.Checked.TheVariants.{Passed}
+use Rattle.std.proofs.Common.{◌≡◌, ◌-◌, ◌≤◌}
+use Rattle.refusals.specs.Results.{Passed}
 use Rattle.tables.specs.Tables.{count, grants_of}
 use Rattle.tables.specs.Form.{test12}
 use Rattle.windows.specs.Window.{before}

@@ -1,26 +1,36 @@
 -- `words::decimal::put_digits` meets its contract.
 -- Assumes nothing.
-use mathlib.Core.Path.{◌≡◌, refl, sym, ◌∙◌}
-use Prim.Native.Nat.{◌-◌}
-use native.Mathlib.Omega.{arith}
+use Rattle.std.proofs.Common.{◌≡◌, ◌+◌, ◌≤◌, ◌-◌, length, sym, ◌∙◌, arith}
 use lib.ListN.{length-set}
 use Rattle.words.specs.Decimals.{digits}
-use Rattle.words.proofs.Decimals.{digits_turn}
+use Rattle.words.proofs.Decimals.{length_digits, digits_turn}
+use Rattle.words.proofs.Places.{within-le, put_short, put_done}
 use Rattle.words.proofs.decimal.put_digits.Goals as goal
+use Rattle.words.proofs.decimal.put_digits.Goals.{Else-not-fits}
 
-pub loop-j-init : goal.loop-j-init
-loop-j-init c = (omega arith, refl, refl)
+-- the digits fit
+whole : (c : Else-not-fits) → c.args.at + c.args.k ≤ length c.args.room.now
+whole c = within-le c.args.at _ _ (sym c.fits.ensures ∙ c.if-not-fits.false)
+
+pub returns-then-not-fits : goal.returns-then-not-fits
+returns-then-not-fits c = (put_short c.args.at _ c.args.room.now _ (sym (length_digits c.args.k c.args.v)) (sym c.fits.ensures ∙ c.if-not-fits.true)).1
+
+pub overflow_add-room-in-loop-j : goal.overflow_add-room-in-loop-j
+overflow_add-room-in-loop-j c = let h = whole (goal.at.overflow_add-room-in-loop-j c).Else-not-fits in omega arith
+
+pub bounds-room-at : goal.bounds-room-at
+bounds-room-at c = let h = whole (goal.at.bounds-room-at c).Else-not-fits in omega (arith, c.loop-j.invariant.0)
 
 pub loop-j-preserved : goal.loop-j-preserved
 loop-j-preserved c =
     let a = c.args in (
-      omega arith,
-      simp length-set c.loop-j.invariant.1,
-      sym (digits_turn c.loop-j.room a.at c.loop-j.left c.loop-j.j (c.loop-j.j - 1) (omega arith)) ∙ c.loop-j.invariant.2,
+      simp length-set c.loop-j.invariant.0,
+      sym (digits_turn c.loop-j.room a.at c.loop-j.left c.loop-j.j (c.loop-j.j - 1) (omega arith)) ∙ c.loop-j.invariant.1,
     )
 
 pub returns : goal.returns
 unfolding digits
 returns c =
     let z : c.loop-j.j ≡ 0 = omega arith in
-    rw z at c.loop-j.invariant.2
+    let written = rw z at c.loop-j.invariant.1 in
+    (put_done c.args.at _ c.args.room.now _ (sym (length_digits c.args.k c.args.v)) _ (sym c.fits.ensures ∙ c.if-not-fits.false) written).1
