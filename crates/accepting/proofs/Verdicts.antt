@@ -14,6 +14,10 @@ use Rattle.pairing.specs.Parts.{pair_tests}
 
 -- test 2, of a head that is or is not that of a list
 module _ (l : List ℕ) (b : Bool) (e : b ≡ headed l) where
+  pub other-head : b ≡ false → test2 l ≡ Refused Head
+  unfolding test2
+  other-head n = unless_no (headed l) Head (sym e ∙ n)
+
   pub list_head : b ≡ true → test2 l ≡ Passed
   unfolding test2
   list_head y = unless_yes (headed l) Head (sym e ∙ y)

@@ -1,10 +1,11 @@
 -- What is known of a list, a table and a new flow that pass their tests. Assumes nothing.
-use Rattle.std.proofs.Common.{arith, ◌+◌, ◌≡◌, List, [], ◌∷◌, ◌++◌, ℕ, ◌*◌, ◌≤◌, ◌<◌}
+use Rattle.std.proofs.Common.{arith, ◌+◌, ◌≡◌, true, List, [], ◌∷◌, ◌++◌, ℕ, ◌*◌, ◌≤◌, ◌<◌}
 use Rattle.logic.specs.Lists.{All}
 use Rattle.logic.proofs.Members.{mem_all, get_d_all}
 use Rattle.logic.proofs.Appends.{mem_behind}
 use Rattle.flows.specs.declared.flow.Flow.{Flow}
-use Rattle.flows.proofs.Flows.{Keeps}
+use Rattle.flows.specs.Flows.{keeps}
+use Rattle.flows.proofs.Flows.{Keeps, rule_kept}
 use Rattle.lists.specs.Lists.{flows_of}
 use Rattle.lists.specs.Facts.{occupies, cycle, frame, grants_of}
 use Rattle.lists.proofs.Accepted.{accepted}
@@ -59,3 +60,7 @@ known l t f j =
       form = (form_passed t w.form).0;
       fit = (held fs ok gs ((check_parts l t).0 j.checked).rules).fits;
     }
+
+-- a flow that joins keeps its rule
+pub joins_keeps : (l t : List ℕ) (f : Flow) → Joins l t f → keeps f ≡ true
+joins_keeps l t f J = rule_kept f (known l t f J).rule

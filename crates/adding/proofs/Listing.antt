@@ -8,8 +8,8 @@ use Rattle.fields.specs.Records.{room_after}
 use Rattle.flows.specs.declared.flow.Flow.{Flow}
 use Rattle.flows.specs.Flows.{packed_flow}
 use Rattle.flows.proofs.Flows.{Keeps}
-use borrow.Rule.Slice.PartMut.{put_mid}
-use Rattle.words.proofs.Places.{copied-sets}
+use Rattle.words.specs.Places.{put_at}
+use Rattle.words.proofs.Places.{put-fits}
 use Rattle.refusals.specs.Results.{Passed}
 use Rattle.lists.specs.Lists.{head_fields, head, count, place, flows_of, records, record_after}
 use Rattle.lists.specs.Tests.{tests1to4}
@@ -30,7 +30,7 @@ records-more (g ∷ fs) f =
 module _ (l : List ℕ) (bytes : (i : ℕ) → get_or l i 0 < 256) (ok : tests1to4 l ≡ Passed) (f : Flow) (rule : Keeps f) where
   -- the head, the old records and the new one are the new list
   pub list_added : (room headed copied out : List ℕ) → list_bytes (flows_of l) f ≤ length room → headed ≡ room_after ListHead (head_fields (count l + 1)) room
-      → copied ≡ put_mid 4 (length l - 4) headed (take (length l - 4) (drop 4 l)) → out ≡ record_after f (count l) copied → out ≡ new_list l f ++ drop (length (new_list l f)) room
+      → copied ≡ put_at headed 4 (take (length l - 4) (drop 4 l)) → out ≡ record_after f (count l) copied → out ≡ new_list l f ++ drop (length (new_list l f)) room
   unfolding list_bytes new_list with_new
   list_added room headed copied out h a b c =
       let fs = flows_of l in
@@ -41,7 +41,7 @@ module _ (l : List ℕ) (bytes : (i : ℕ) → get_or l i 0 < 256) (ok : tests1t
       let size : length (records fs) ≡ 6 * count l = length-records fs ∙ ap (λ (k : ℕ). 6 * k) (length-flows l) in
       let a' : headed ≡ sets room 0 (head (count l + 1)) = a ∙ head-written (count l + 1) room (omega (arith, L.most)) (omega (arith, n)) in
       let b' : copied ≡ sets headed 4 (records fs) =
-      b ∙ copied-sets 4 (length l - 4) headed (records fs) _ (omega (arith, n, size, ap length a', length-sets room 0 (head (count l + 1)))) (omega (arith, size, L.exactly)) (sym old) in
+      b ∙ ap (put_at headed 4) (sym old) ∙ (put-fits 4 (records fs) headed (omega (arith, n, size, ap length a', length-sets room 0 (head (count l + 1))))).1 in
       let c' : out ≡ sets copied (place (count l)) (packed_flow f) =
       c ∙ record_written f (count l) copied rule (omega (arith, n, ap length b', length-sets headed 4 (records fs), ap length a', length-sets room 0 (head (count l + 1)))) in
       let behind : place (count l) ≡ 4 + length (records fs) = omega (arith, size) in

@@ -1,11 +1,11 @@
 -- The new flow's tests, verdict by verdict. Assumes nothing.
-use Rattle.std.proofs.Common.{◌≡◌, sym, ap, ap₂, ◌∙◌, List, [], ◌∷◌, ℕ, ◌+◌, ◌/◌, ◌≤◌, ◌&&◌, leb, ltb, length, length-append, arith, le-leb, leb-true, lt-ltb, le-ltb}
+use Rattle.std.proofs.Common.{◌≡◌, sym, ap, ap₂, ◌∙◌, List, [], ◌∷◌, ℕ, ◌+◌, ◌/◌, ◌≤◌, ◌<◌, ◌&&◌, leb, ltb, length, length-append, arith, le-leb, leb-true, lt-ltb, le-ltb}
 use borrow.Author.Tests.{lt-leb}
 use Rattle.logic.proofs.Tests.{by_lt, by_test, and_both}
 use Rattle.flows.specs.declared.flow.Flow.{Flow}
 use Rattle.flows.specs.Flows.{keeps}
 use Rattle.refusals.specs.declared.Refusal.TheVariants.{Count, Field, Limits, Room}
-use Rattle.refusals.specs.Results.{Passed}
+use Rattle.refusals.specs.Results.{Checked, Passed, Refused}
 use Rattle.refusals.specs.Tests.{◌⟫◌, unless}
 use Rattle.refusals.proofs.Chains.{both_passed, chain_assoc}
 use Rattle.refusals.proofs.Walks.{more_alone}
@@ -29,6 +29,17 @@ use Rattle.offsets.specs.Adding.{with_new, test21, new_tests, list_bytes, table_
 use Rattle.adding.specs.Parts.{limit_tests, roomy, later_tests}
 
 -- ---- 21, and 7 on the new list
+
+-- where the new flow's interval is among the old ones
+module _ (fs : List Flow) (f : Flow) (low : frame fs ≤ f.interval) (high : f.interval ≤ cycle fs) where
+  -- 21 passes, and 7 is left
+  then_limits : (c : Checked) → c ≡ test7 (with_new fs f) → c ≡ (test21 fs f ⟫ test7 (with_new fs f))
+  unfolding test21
+  then_limits c e = rw (le-leb (frame fs) f.interval low, le-leb f.interval (cycle fs) high) e
+
+  pub too_many : 1024 < grants fs + grants_of (cycle fs) f → Refused Limits ≡ (test21 fs f ⟫ test7 (with_new fs f))
+  unfolding with_new
+  too_many h = then_limits _ (sym (not_limited (with_new fs f) (λ k. omega (arith, k.1, grants-more fs f low high))))
 
 module _ (fs : List Flow) (f : Flow) (ok : Accepted fs) where
   -- 7 on the new list is the number of its grants, where the new flow's interval is among the old ones
@@ -59,7 +70,7 @@ module _ (l t : List ℕ) (f : Flow) (ok : check l t ≡ Passed) where
       (w.same_cycle, w.same_frame, sym (length-grants t) ∙ passes-length (flows_of l) (accepted l p.list).distinct (grants_in t) p.rules)
 
   -- and with the new flow's the new list's grants
-  told_grants : table_count t + cycle_of t / f.interval ≡ grants (flows_of l) + grants_of (cycle (flows_of l)) f
+  pub told_grants : table_count t + cycle_of t / f.interval ≡ grants (flows_of l) + grants_of (cycle (flows_of l)) f
   unfolding grants_of
   told_grants = ap₂ (λ (n c : ℕ). n + c / f.interval) told.2 told.0
 

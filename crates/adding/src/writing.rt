@@ -20,7 +20,7 @@ pub(crate) fn write_list(list: &[u8], f: Flow, room: &mut [u8])
     let n = lists::count(list);
     let end = list.len();
     let _ = lists::write_head((n + 1) as u16, room);
-    room[4..end].copy_from_slice(&list[4..end]);
+    words::put(&list[4..end], room, 4);
     let _ = lists::write_record(f, n, room);
 }
 
@@ -50,7 +50,7 @@ fn copy_records(table: &[u8], i: usize, j: usize, k: usize, room: &mut [u8])
     requires { (i ≤ j) × (place j ≤ length table.now) × (place (j + k) ≤ length room.old) }
     ensures { room.new ≡ sets room.old (place (i + k)) (take (place j - place i) (drop (place i) table.now)) }
 {
-    room[8 + 5 * (i + k)..8 + 5 * (j + k)].copy_from_slice(&table[8 + 5 * i..8 + 5 * j]);
+    words::put(&table[8 + 5 * i..8 + 5 * j], room, 8 + 5 * (i + k));
 }
 
 // Writes the grants of the table and the new flow's in the order of their starts: before each new one the old records that start

@@ -1,12 +1,25 @@
 -- Test 16 of a grant by the stamp of its flow's last one, and what it leaves of a flow's nominal times. Assumes nothing.
 use Rattle.std.proofs.Common.{◌≡◌, Bool, refl, sym, ap, true, false, ◌&&◌, List, ℕ, zero, suc, ◌+◌, ◌-◌, ◌*◌, ◌≤◌, ◌<◌, arith, mul-le-mul_right, leb}
 use mathlib.Core.Option.{Option, none, some}
-use borrow.Author.Tests.{ltb-true, eqb-true}
+use borrow.Author.Tests.{ltb-true, eqb-true, le-leb, lt-leb}
 use Rattle.logic.proofs.Tests.{by_order, and_both}
 use Rattle.flows.specs.declared.flow.Flow.{Flow}
 use Rattle.tables.specs.declared.packed.Grant.{Grant}
 use Rattle.law.specs.Check.{look, nominal, last, steps, timely}
 use Rattle.checking.specs.Parts.{Steady, stamp_of, steps_from, on_time}
+
+-- ---- as the code asks it
+
+module _ (j i s start late : ℕ) where
+  pub over-jitter : j < late → false ≡ on_time j i s start late
+  over-jitter h = rw (lt-leb late j h)
+
+  pub over-start : late ≤ j → start < late → false ≡ on_time j i s start late
+  over-start h l = rw (le-leb late j h, lt-leb late start l)
+
+  -- a grant that is late neither over the jitter nor over its start
+  pub on_time_lem : late ≤ j → late ≤ start → steps_from i s (start - late) ≡ on_time j i s start late
+  on_time_lem h l = rw (le-leb late j h, le-leb late start l)
 
 -- ---- as the law asks it
 

@@ -30,12 +30,13 @@ impl Pair<'_> {
         lists::count(self.list)
     }
 
-    // The flow of the list's record k, counted from 0.
+    // The flow of the list's record k, counted from 0, its fields handed on one by one as `lists` does.
     #[tactic(auto, using(crate::proofs::Entries::reads))]
     pub(crate) fn flow_at(&self, k: usize) -> Flow
         ensures { k < length (flows_in self.now) → result ≡ get_or (flows_in self.now) k no_flow }
     {
-        lists::flow_at(self.list, k)
+        let flow = lists::flow_at(self.list, k);
+        Flow { ..flow }
     }
 
     // The list's record of the flow with that number, if the list has it.

@@ -60,6 +60,10 @@ pub fn check_and_index(list: &[u8], table: &[u8], index: &mut Index) -> Result<(
 pub fn check(list: &[u8], table: &[u8]) -> Result<(), Refusal>
     ensures { result ≡ check list.now table.now }
 {
-    let mut index = Index::EMPTY;
+    // the two arrays begin with different bytes: one run of bytes would be filled by a call of the C library
+    let mut index = Index {
+        nexts: [0; FLOWS],
+        ..Index::EMPTY
+    };
     check_and_index(list, table, &mut index)
 }

@@ -15,7 +15,7 @@ use refusals::{Refusal, unless};
 const LONGEST: usize = 4 + 6 * 128;
 
 // Tests 5, 6 and 9 of a list, and the list at the room's front.
-#[tactic(auto, unfolding(refusals::specs::Answers::answer, refusals::specs::Answers::written))]
+#[tactic(auto, unfolding(refusals::specs::Answers::answer, refusals::specs::Answers::written), using(words::proofs::Places::put_front))]
 fn test_and_put(list: &[u8], room: &mut [u8]) -> Result<usize, Refusal>
     ensures value { result ≡ answer (pair_tests (flows_of list.now)) list.now (length room.old) }
     ensures room_after { room.new ≡ written (pair_tests (flows_of list.now)) list.now room.old }
@@ -24,7 +24,7 @@ fn test_and_put(list: &[u8], room: &mut [u8]) -> Result<usize, Refusal>
     pair_tests(list, &mut bits)?;
     let size = list.len();
     unless(size <= room.len(), Refusal::Room)?;
-    room[..size].copy_from_slice(list);
+    words::put(list, room, 0);
     Ok(size)
 }
 

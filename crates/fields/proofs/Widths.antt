@@ -3,7 +3,7 @@ use mathlib.Core.Path.{◌≡◌, refl}
 use mathlib.Core.Bool.{true, ◌&&◌}
 use mathlib.Core.List.{List, [], ◌∷◌}
 use Prim.Native.Nat.{ℕ, zero, suc, ◌*◌, ◌≤◌, ◌<◌, zero-le}
-use lib.Dec.{leb, lit<}
+use lib.Dec.{leb, lit≤, lit<}
 use lib.ListN.{get_or}
 use borrow.Author.Tests.{leb-true}
 use Rattle.logic.specs.Lists.{every}
@@ -38,6 +38,12 @@ whole-bytes ListHead = refl
 whole-bytes ListRecord = refl
 whole-bytes TableHead = refl
 whole-bytes TableRecord = refl
+
+pub bytes_le : (k : Kind) → bytes k ≤ 8
+bytes_le ListHead = lit≤ tt
+bytes_le ListRecord = lit≤ tt
+bytes_le TableHead = lit≤ tt
+bytes_le TableRecord = lit≤ tt
 
 pub bytes_pos : (k : Kind) → 0 < bytes k
 bytes_pos ListHead = lit< tt

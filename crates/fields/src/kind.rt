@@ -1,6 +1,8 @@
 // The kinds of records, with the widths of their fields and where records of a kind stand.
-ghost use Rattle.std.specs.Prelude.{◌≡◌, ◌<◌, ◌^◌, SomeIff};
+ghost use Rattle.std.specs.Prelude.{◌≡◌, ◌≤◌, ◌+◌, ◌^◌, MatchOption};
 ghost use Rattle.fields.specs.Kinds.{widths, bytes, head_bytes, place};
+
+use std::ops::Range;
 
 // A kind of record: the head of a list or of a table, or one of the records behind it.
 #[derive(Clone, Copy)]
@@ -50,11 +52,16 @@ impl Kind {
         }
     }
 
-    // Where record i stands, counted from 0; nothing where that is beyond the numbers of its type.
+    // The bytes of record i, counted from 0; nothing where they end beyond the numbers of their type.
     #[inline(always)]
-    pub(crate) fn place(self, i: usize) -> Option<usize>
-        ensures { SomeIff result (place self i < 2 ^ 64) (place self i) }
+    pub(crate) fn place(self, i: usize) -> Option<Range<usize>>
+        ensures { MatchOption result (2 ^ 64 ≤ place self i + bytes self) (λ r. (r.start ≡ place self i) × (r.end ≡ place self i + bytes self)) }
     {
-        i.checked_mul(self.bytes())?.checked_add(self.head_bytes())
+        let most = (usize::MAX - self.head_bytes()) / self.bytes();
+        if most <= i {
+            return None;
+        }
+        let start = self.head_bytes() + self.bytes() * i;
+        Some(start..start + self.bytes())
     }
 }

@@ -28,8 +28,8 @@ pub fn read(kind: Kind, s: &[u8]) -> Option<[u16; 6]>
 pub fn read_at(kind: Kind, bytes: &[u8], i: usize) -> Option<[u16; 6]>
     ensures { result ≡ reading_at kind bytes.now i }
 {
-    let start = kind.place(i)?;
-    read(kind, bytes.get(start..)?)
+    let place = kind.place(i)?;
+    read(kind, bytes.get(place)?)
 }
 
 // Puts the record at the room's front; the rest stays, and all of it where the answer is not `Ok`.
@@ -59,7 +59,7 @@ pub fn write_at(kind: Kind, values: [u16; 6], i: usize, room: &mut [u8]) -> Resu
     ensures room_after { room.new ≡ room_after_at kind values i room.old }
 {
     match kind.place(i) {
-        Some(start) if start < room.len() => write(kind, values, &mut room[start..]),
+        Some(place) if place.end <= room.len() => write(kind, values, &mut room[place]),
         _ => Err(Misfit::Short),
     }
 }

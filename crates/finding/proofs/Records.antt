@@ -101,6 +101,14 @@ pub record Sought (fs : List Flow) (x : ℕ) (next : Option ℕ) : Type 0 where
   pub inside : (k : ℕ) → next ≡ Some k → (k < length fs) × (bits_of fs k ≡ x % 256)
 
 module _ (fs : List Flow) (index : Index) (a : Indexed fs index) (x : ℕ) where
+  -- the search begins at the record that is noted first
+  pub sought_first : Sought fs x (record_in (first_of index.firsts x))
+  sought_first =
+      record {
+        passed = λ j l h e. let few = a.few in a.first_skips x j (omega arith) l (before (first_of index.firsts x) j (omega arith) h) (ap (λ (n : ℕ). n % 256) e);
+        inside = λ k s. let n = noted_is (first_of index.firsts x) k s in let o = a.first_has x (omega (arith, n.0, n.1)) in rw (← n.0) (o.1, o.2);
+      }
+
   module _ (next : Option ℕ) (b : Sought fs x next) where
     -- no record is left
     pub sought_none : next ≡ None → None ≡ record_of fs x

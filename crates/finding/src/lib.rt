@@ -43,11 +43,11 @@ impl Index {
         nexts: [ABSENT; FLOWS],
     };
 
-    // Notes the records of a list.
+    // Notes the records of a list. What stood behind a record before is not looked at, and is written over where there is one.
     pub fn fill(&mut self, list: &[u8])
         ensures { count list.now ≤ 128 → Indexed (flows_of list.now) self.new }
     {
-        *self = Index::EMPTY;
+        self.firsts = [ABSENT; 256];
         for i in (0..count(list).min(FLOWS)).rev() {
             let bits = last_bits(flow_at(list, i).number);
             self.nexts[i] = self.firsts[bits];

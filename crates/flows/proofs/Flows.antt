@@ -6,7 +6,7 @@ use Prim.Native.Nat.{ℕ, ◌≤◌, ◌<◌}
 use native.Mathlib.Omega.{arith}
 use lib.Dec.{leb, lit<}
 use lib.ListN.{length, get_or, take}
-use borrow.Author.Tests.{ltb-true, leb-true}
+use borrow.Author.Tests.{lt-ltb, le-leb, ltb-true, leb-true}
 use Rattle.logic.specs.Numbers.{among}
 use Rattle.logic.proofs.Tests.{by_lt, and_both, among_both}
 use Rattle.fields.specs.declared.kind.Kind.TheVariants.{ListRecord}
@@ -14,7 +14,7 @@ use Rattle.flows.specs.declared.flow.Flow.{Flow}
 use Rattle.fields.specs.Packed.{Fit}
 use Rattle.fields.specs.Kinds.{widths}
 use Rattle.fields.specs.Records.{packed, values_of}
-use Rattle.flows.specs.Flows.{keeps, fields_of, flow_with, flow_of, packed_flow}
+use Rattle.flows.specs.Flows.{no_flow, keeps, fields_of, flow_with, flow_of, packed_flow}
 use Rattle.fields.proofs.Packed.{four-values}
 use Rattle.fields.proofs.Records.{length-packed, values_short, values-packed, packed_front, values_fit}
 
@@ -46,6 +46,12 @@ keeps_is f h =
     let e = and_both (leb f.size f.interval) _ d.1 in
     keeps_by f a.0 b.0 d.0 (leb-true _ _ e.0) (ltb-true _ _ e.1)
 
+-- and a flow that keeps it passes the test
+pub rule_kept : (f : Flow) → Keeps f → keeps f ≡ true
+unfolding keeps
+rule_kept f k =
+    rw (le-leb _ _ k.numbered, le-leb _ _ k.number_le, le-leb _ _ k.sized, le-leb _ _ k.size_le, le-leb _ _ k.timed, le-leb _ _ k.interval_le, le-leb _ _ k.fitting, lt-ltb _ _ k.tolerable)
+
 -- ---- the record
 
 -- a flow that keeps its rule has fields that fit their widths
@@ -55,6 +61,11 @@ keeps_fit f k = (omega arith, (omega arith, (omega arith, (omega arith, (lit< tt
 pub length-packed_flow : (f : Flow) → length (packed_flow f) ≡ 6
 unfolding packed_flow
 length-packed_flow f = length-packed ListRecord (fields_of f)
+
+-- fewer bytes than a record has are no record
+pub flow_short : (bs : List ℕ) → length bs < 6 → flow_of bs ≡ no_flow
+unfolding flow_of
+flow_short bs h = ap flow_with (values_short ListRecord bs h)
 
 -- the number that is read has 10 bits, the interval 13
 pub flow_small : (bs : List ℕ) → ((flow_of bs).number < 1024) × ((flow_of bs).interval < 8192)

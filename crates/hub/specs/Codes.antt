@@ -1,6 +1,6 @@
 -- What the C interface answers: a number, and values through pointers. Assumes nothing.
 use Rattle.std.specs.Prelude.{ℕ, ◌-◌, Result, Ok, Err}
-use Rattle.std.specs.declared.ops.Range.{Range}
+use Rattle.windows.specs.declared.stretch.Edges.{Edges}
 use Rattle.refusals.specs.declared.Refusal.{Refusal}
 use Rattle.refusals.specs.Results.{Checked, Written}
 use Rattle.refusals.specs.Refusals.{number, place}
@@ -21,11 +21,11 @@ check_value (Ok tt) = 0
 check_value (Err r) = place r
 
 -- where a window's stretch starts, in bytes from the table's front; refused, the front
-abbrev pub window_first : Result (Range ℕ) Refusal → ℕ
+abbrev pub window_first : Result Edges Refusal → ℕ
 window_first (Ok edges) = edges.start
 window_first (Err r) = 0
 
 -- how many bytes it has
-abbrev pub window_bytes : Result (Range ℕ) Refusal → ℕ
+abbrev pub window_bytes : Result Edges Refusal → ℕ
 window_bytes (Ok edges) = edges.end - edges.start
 window_bytes (Err r) = 0

@@ -75,7 +75,7 @@ pub fn snowploughy_window(table: &[u8], a: u64, b: u64, first: &mut u64, bytes: 
     match windows::edges_of(table, a, b) {
         Ok(edges) => {
             *first = edges.start as u64;
-            *bytes = edges.len() as u64;
+            *bytes = edges.end.saturating_sub(edges.start) as u64;
             0
         }
         Err(r) => {

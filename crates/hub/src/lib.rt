@@ -17,4 +17,4 @@ pub use planner::plan;
 pub use printing::sheet_from_list;
 pub use reading::list_from_sheet;
 pub use rounding::round_list;
-pub use windows::{edges_of, window, window_tests};
+pub use windows::{Edges, edges_of, window, window_tests};

@@ -77,6 +77,9 @@ pub timely_is : (z : ℕ) (fs : List Flow) (seen : List Grant) (r : Grant) → P
 unfolding timely
 timely_is z fs seen r p = rw (le-leb r.late (look fs r.flow).jitter p.0, timely) (rw (le-leb r.late (z + r.start) p.1))
 
+pub not-timely : (z : ℕ) (fs : List Flow) (seen : List Grant) (r : Grant) → (Punctual z fs r → ⊥) → false ≡ timely z fs seen r
+not-timely z fs seen r n = by_test (timely z fs seen r) (λ e. absurd (n (timely_inv z fs seen r e).0)) sym
+
 module _ (z : ℕ) (fs : List Flow) (d : Distinct fs) where
   pub pass_times : (seen rs : List Grant) → All (λ r. known fs r.flow ≡ true) rs → Pass (against (timely z fs) seen rs) → Times z fs seen rs
   unfolding to last against

@@ -53,6 +53,10 @@ module _ (l : List ℕ) where
   unfolding test2
   head_passed e = head_says (unless_passed _ Head e)
 
+  pub inexact : (length l ≡ place (count l) → ⊥) → test1exact l ≡ Refused Length
+  unfolding test1exact
+  inexact n = rw (ne_eqb (length l) (place (count l)) n)
+
   pub exact : length l ≡ place (count l) → test1exact l ≡ Passed
   unfolding test1exact
   exact e = rw (eq-eqb (length l) (place (count l)) e)
@@ -108,6 +112,14 @@ limited fs h = rw (le-leb _ 256 h.0, le-leb _ 1024 h.1)
 pub limited_passed : (fs : List Flow) → test7 fs ≡ Passed → Limited fs
 unfolding test7
 limited_passed fs e = limited_says fs (unless_passed _ Limits e)
+
+-- tests 1 to 4 are those of the head and the length, and then test 4
+pub head_first : (l : List ℕ) → tests1to4 l ≡ ((test1 l ⟫ test2 l ⟫ test3 (count l) ⟫ test1exact l) ⟫ test4 (flows_of l))
+unfolding tests1to4
+head_first l =
+    sym
+    (chain_assoc (test1 l) _ _
+    ∙ ap (λ (c : Checked). test1 l ⟫ c) (chain_assoc (test2 l) _ _ ∙ ap (λ (c : Checked). test2 l ⟫ c) (chain_assoc (test3 (count l)) (test1exact l) (test4 (flows_of l)))))
 
 -- test 4 passes exactly where every flow keeps its rule
 pub kept_exactly : (fs : List Flow) → (test4 fs ≡ Passed) ↔ All (λ f. keeps f ≡ true) fs

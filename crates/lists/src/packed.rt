@@ -23,12 +23,18 @@ pub fn count(list: &[u8]) -> usize
     usize::from(head_of(list)[3])
 }
 
-// The flow of record i, counted from 0; zeros where the list has no such record.
+// The flow of record i, counted from 0; zeros where the list has no such record. Its fields are handed on one by one: copied whole,
+// they are packed into one number, which every reader takes apart again.
 #[tactic(auto, unfolding(fields::specs::Records::reading, fields::specs::Records::values_of, flows::specs::Flows::flow_of, crate::specs::Lists::flow_at))]
 pub fn flow_at(list: &[u8], i: usize) -> Flow
     ensures { result ≡ flow_at list.now i }
 {
-    fields::read_at(Kind::ListRecord, list, i).map_or(Flow::NONE, Flow::from)
+    match fields::read_at(Kind::ListRecord, list, i) {
+        Some(values) => Flow {
+            ..Flow::from(values)
+        },
+        None => Flow::NONE,
+    }
 }
 
 // Puts the head of a list of n records at the room's front; the rest stays, and all of it where the answer is not `Ok`.

@@ -12,6 +12,10 @@ use Rattle.logic.proofs.Tests.{by_eq}
 pub opens : {A : Type 0} (xs : List A) (d x : A) (i : ℕ) → i < length xs → x ≡ get_or xs i d → drop i xs ≡ x ∷ drop (i + 1) xs
 opens xs d x i h e = rw (add-one, e) (drop-cons xs i d h)
 
+-- one entry more is set to v
+pub filled_next : (xs : List ℕ) (k v : ℕ) → k < length xs → ((j : ℕ) → j < k → get_or xs j 0 ≡ v) → (j : ℕ) → j < k + 1 → get_or (set xs k v) j 0 ≡ v
+filled_next xs k v l a j h = by_eq j k (λ e. rw e (get_or-set_same xs k v 0 l)) (λ n. rw (get_or-set_other xs k j v 0 n) (a j (omega arith)))
+
 -- n entries from index i on, whichever way they are written down
 module _ {ℓ} {A : Type ℓ} (at : ℕ → A) (from : ℕ → ℕ → List A)
     (none : (i : ℕ) → from i 0 ≡ []) (next : (i n : ℕ) → from i (suc n) ≡ at i ∷ from (suc i) n) where

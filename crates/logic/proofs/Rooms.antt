@@ -20,6 +20,18 @@ sets_front ws room h =
     let e : 0 + length ws ≡ length ws = omega arith in
     sets-eq ws room 0 (omega arith) ∙ ap (λ (k : ℕ). ws ++ drop k room) e
 
+-- a loop that writes a word from its front: as it starts, a turn, and its end
+pub sets_start : (room w : List ℕ) (at : ℕ) → sets room (at + 0) w ≡ sets room at w
+sets_start room w at = let e : at + 0 ≡ at = omega arith in rw e
+
+pub sets_next : (room w : List ℕ) (at i : ℕ) → i < length w → sets room (at + i) (drop i w) ≡ sets (set room (at + i) (get_or w i 0)) (at + (i + 1)) (drop (i + 1) w)
+sets_next room w at i h =
+    let e : at + suc i ≡ suc (at + i) = omega arith in
+    rw (add-one, e, drop-cons w i 0)
+
+pub sets_done : (room w : List ℕ) (at i : ℕ) → length w ≤ i → sets room at (drop i w) ≡ room
+sets_done room w at i h = rw (drop_of_length-le w h)
+
 -- a turn of a loop that writes from the end
 pub sets_last : (room : List ℕ) (at : ℕ) (a : List ℕ) (x : ℕ) → sets room at (a ++ (x ∷ [])) ≡ sets (set room (at + length a) x) at a
 sets_last room at [] x = let e : at + 0 ≡ at = omega arith in rw e

@@ -5,7 +5,7 @@ use Prim.Native.Nat.{ℕ, zero, suc, ◌+◌, ◌*◌, ◌/◌, ◌%◌, ◌^◌
 use native.Mathlib.Omega.{arith}
 use lib.Bits.{bit_or, or_shr, or_mod, or_zero_l, or_zero_r, or_self}
 use lib.Dec.{leb, ltb, eqb}
-use borrow.Author.Tests.{eqb-true, ltb-true, lt-ltb, le-leb, le-ltb, lt-leb}
+use borrow.Author.Tests.{eqb-true, leb-true, ltb-true, lt-ltb, le-leb, le-ltb, lt-leb}
 use Rattle.logic.proofs.Tests.{by_lt, by_eq, and_both}
 
 -- every number below n passes
@@ -23,6 +23,11 @@ below_each (suc n) ok e k h =
 -- m ones from bit b on, as 16 bits
 abbrev pub ones : ℕ → ℕ → ℕ
 ones b m = (1 * 2 ^ m % 65536 - 1) * 2 ^ b % 65536
+
+-- from 2 ^ m one can be taken
+pub ones_some : (m : ℕ) → m ≤ 8 → 1 ≤ 1 * 2 ^ m % 65536
+unfolding below
+ones_some m h = leb-true 1 _ (below_each 9 (λ m. leb 1 (1 * 2 ^ m % 65536)) refl m (omega arith))
 
 -- they are a byte
 pub ones_byte : (b m : ℕ) → b < 8 → m ≤ 8 - b → ones b m < 256

@@ -15,7 +15,7 @@ use Rattle.marks.specs.Marks.{bit, Alike, Marks}
 use Rattle.marks.proofs.Bits.{below, below_each, ones, bit_of_run, bit_of_rest}
 
 -- a number without a bit is not marked
-none_beyond : (xs : List ℕ) (x : ℕ) → length xs ≤ x / 8 → bit xs x ≡ 0
+pub none_beyond : (xs : List ℕ) (x : ℕ) → length xs ≤ x / 8 → bit xs x ≡ 0
 none_beyond xs x h = rw (get_or-eq_default xs 0 h, zero-div (2 ^ (x % 8)))
 
 -- nor is any where all bytes are 0
@@ -40,6 +40,10 @@ marks_run xs x r h few =
 
     same : get_or (set xs (x / 8) (bit_or n (ones (x % 8) r))) (x / 8) 0 ≡ bit_or n (ones (x % 8) r)
     same = get_or-set_same xs (x / 8) (bit_or n (ones (x % 8) r)) 0 h
+
+-- one number
+pub alike-one : (bs : List ℕ) (x : ℕ) → Alike bs x 1
+alike-one bs x = record { some = omega arith; few = omega arith; same = λ y a b. let e : y ≡ x = omega arith in rw e }
 
 -- every bit of 255 is 1
 full : (k : ℕ) → k < 8 → 255 / 2 ^ k % 2 ≡ 1

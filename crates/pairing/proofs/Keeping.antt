@@ -135,7 +135,7 @@ module _ (cells : List (Option ℕ)) (x : ℕ) (small : x < 8192) (c : Chain cel
   own = count_leading_zeros 16 x
 
   -- which is there
-  own_there : own < length cells
+  pub own_there : own < length cells
   own_there = omega (arith, leading_le 16 x, c.all)
 
   -- the cell holds it: it is kept

@@ -17,5 +17,6 @@ pub mod Writing
 pub mod Chains
 pub mod Linking
 pub mod Tabling
+pub mod Verdicts
 pub mod Answering
 pub mod Passes

@@ -1,5 +1,5 @@
 -- A turn of each walk along the frames. Assumes nothing.
-use Rattle.std.proofs.Common.{Some, None, ◌≡◌, refl, true, false, ◌⊎◌, List, [], ◌∷◌, ◌++◌, ℕ, ◌+◌, ◌≤◌, ◌<◌, add-one, arith, eqb, length, get_or, take, drop, drop_of_length-le, drop-cons, take-suc}
+use Rattle.std.proofs.Common.{Some, None, ◌≡◌, refl, true, false, ◌⊎◌, List, [], ◌∷◌, ◌++◌, ℕ, ◌+◌, ◌*◌, ◌≤◌, ◌<◌, add-one, arith, eqb, length, get_or, take, drop, drop_of_length-le, drop-cons, take-suc}
 use borrow.Author.Tests.{lt-ltb, le-ltb, eq-eqb}
 use Rattle.placing.specs.Rule.{past}
 use Rattle.planner.specs.Cells.{over}
@@ -9,6 +9,10 @@ over-append : (φ o : ℕ) (xs ys : List ℕ) → over φ o (xs ++ ys) ≡ over 
 unfolding over
 over-append φ o [] ys = refl
 over-append φ o (x ∷ xs) ys = over-append φ (past φ o x) xs ys
+
+-- what is carried on grows by no more than a frame's content
+pub carried : (φ o k c : ℕ) → o ≤ 65535 * k → c < 65536 → past φ o c ≤ 65535 * (k + 1)
+carried φ o k c h l = omega arith
 
 -- one frame more
 pub over-next : (φ : ℕ) (cs : List ℕ) (k : ℕ) → k < length cs → over φ 0 (take (k + 1) cs) ≡ past φ (over φ 0 (take k cs)) (get_or cs k 0)

@@ -19,6 +19,12 @@ pub piece_is : (w : List ℕ) (v : ℕ) → piece w v ≡ w ++ decimal v
 unfolding piece
 piece_is w v = refl
 
+pub length-piece : (w : List ℕ) (v : ℕ) → length (piece w v) ≡ length w + width v
+length-piece w v = ap length (piece_is w v) ∙ length-append w (decimal v) ∙ omega (arith, length-decimal v)
+
+pub piece-le : (w : List ℕ) (v : ℕ) → length (piece w v) ≤ length w + 4
+piece-le w v = omega (arith, length-piece w v, width-le v)
+
 -- ---- a line
 
 -- five texts one behind the other

@@ -1,7 +1,7 @@
 // The head and the records of a packed table, read and written.
 ghost use Rattle.std.specs.Prelude.{◌≡◌, length};
-ghost use Rattle.fields.specs.declared.kind.Kind.TheVariants.{TableHead};
-ghost use Rattle.fields.specs.Records.{stored, room_after};
+ghost use Rattle.fields.specs.declared.kind.Kind.TheVariants.{TableHead, TableRecord};
+ghost use Rattle.fields.specs.Records.{values_of, stored, room_after};
 ghost use Rattle.tables.specs.Tables.{head_fields, head_of, count, cycle_of, frame_of, values_at, grant_with, grant_at, fields_of, spare_at, record_stored, record_after};
 
 use fields::{Kind, Misfit};
@@ -66,6 +66,14 @@ pub fn frame(table: &[u8]) -> u16
     ensures { result ≡ frame_of table.now }
 {
     head_of(table)[5]
+}
+
+// The values of the record at the front of the bytes; zeros where they do not hold it whole.
+#[tactic(auto, unfolding(fields::specs::Records::reading, fields::specs::Records::values_of))]
+pub(crate) fn values_of(bytes: &[u8]) -> [u16; 6]
+    ensures { result ≡ values_of TableRecord bytes.now }
+{
+    fields::read(Kind::TableRecord, bytes).unwrap_or([0; 6])
 }
 
 // The values of record i, counted from 0; zeros where the table has no such record.

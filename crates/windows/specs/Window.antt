@@ -1,7 +1,7 @@
 -- Document 01: "The window hands back the records with a ≤ start < b as a stretch of the caller's own table". Assumes nothing.
 use Rattle.std.specs.Prelude.{◌≡◌, ◌&&◌, cond, List, [], ◌∷◌, ℕ, suc, ◌+◌, ◌-◌, leb, ltb, take, drop, Result, Ok, Err}
 use Rattle.std.specs.Borrow.{Bor}
-use Rattle.std.specs.declared.ops.Range.{Range}
+use Rattle.windows.specs.declared.stretch.Edges.{Edges}
 use Rattle.refusals.specs.declared.Refusal.{Refusal}
 use Rattle.refusals.specs.declared.Refusal.TheVariants.{WindowEnds}
 use Rattle.refusals.specs.Results.{Checked, Passed}
@@ -35,12 +35,12 @@ edge (Ok tt) t a = place (before a (grants_of t))
 edge (Err r) t a = 0
 
 -- both edges, or the refusal
-abbrev pub edges_if : Checked → List ℕ → ℕ → ℕ → Result (Range ℕ) Refusal
+abbrev pub edges_if : Checked → List ℕ → ℕ → ℕ → Result Edges Refusal
 edges_if (Ok tt) t a b = Ok (record { start = edge Passed t a; end = edge Passed t b })
 edges_if (Err r) t a b = Err r
 
 -- the edges of a window
-unfoldable pub edges_of : List ℕ → ℕ → ℕ → Result (Range ℕ) Refusal
+unfoldable pub edges_of : List ℕ → ℕ → ℕ → Result Edges Refusal
 edges_of t a b = edges_if (window_tests t a b) t a b
 
 -- r is the part of s from byte i up to byte e: those bytes, and where they stand in the caller's own memory

@@ -5,4 +5,4 @@
 
 mod stretch;
 
-pub use stretch::{edges_of, window, window_tests};
+pub use stretch::{Edges, edges_of, window, window_tests};

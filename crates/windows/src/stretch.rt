@@ -6,8 +6,14 @@ ghost use Rattle.tables.specs.Form.{test12};
 ghost use Rattle.windows.specs.Window.{window_tests, before, edge, edges_of, Stretch};
 
 use refusals::{Refusal, unless};
-use std::ops::Range;
 use tables::{count, cycle, form_tests, grant_at};
+
+// Where the records of a window stand in the table, in bytes from its front: from byte `start` up to byte `end`.
+#[derive(Clone, Copy)]
+pub struct Edges {
+    pub start: usize,
+    pub end: usize,
+}
 
 // Tests 11, 12 and 19, in their order: the number of a refused window is had here.
 #[tactic(auto, unfolding(crate::specs::Window::window_tests, crate::specs::Window::test19))]
@@ -41,13 +47,13 @@ fn grants_before(table: &[u8], a: u64) -> usize
 // Where the records with a ≤ start < b stand in the table, in bytes from its front, or the window's refusal. Without such a
 // record both ends stand before the first record with start ≥ a, or at the end of the table.
 #[tactic(auto, unfolding(crate::specs::Window::edges_of, crate::specs::Window::edge), using(crate::proofs::Windows::window_rises))]
-pub fn edges_of(table: &[u8], a: u64, b: u64) -> Result<Range<usize>, Refusal>
+pub fn edges_of(table: &[u8], a: u64, b: u64) -> Result<Edges, Refusal>
     ensures { result ≡ edges_of table.now a b }
 {
     window_tests(table, a, b)?;
     let first = 8 + 5 * grants_before(table, a);
     let end = 8 + 5 * grants_before(table, b);
-    Ok(first..end)
+    Ok(Edges { start: first, end })
 }
 
 // The records with a ≤ start < b, as a stretch of the caller's own table. Without such a record it is empty and stands before
@@ -57,7 +63,7 @@ pub fn window(table: &[u8], a: u64, b: u64) -> &[u8]
     ensures { Stretch table.entry result (edge (window_tests table.now a b) table.now a) (edge (window_tests table.now a b) table.now b) }
 {
     match edges_of(table, a, b) {
-        Ok(edges) => &table[edges],
+        Ok(edges) => &table[edges.start..edges.end],
         Err(_) => &table[..0],
     }
 }

@@ -2,15 +2,15 @@
 use mathlib.Core.Path.{◌≡◌, refl, sym, ap, ◌∙◌}
 use mathlib.Core.Bool.{true, false, not, true≢false, and-false, and-true}
 use mathlib.Core.List.{List, [], ◌∷◌}
-use Rattle.std.proofs.Common.{Some, None}
+use Rattle.std.proofs.Common.{Some, None, min}
 use Rattle.std.specs.Char.{is_ascii_digit}
 use Rattle.std.specs.List.{prefix_len}
 use Prim.Native.Nat.{ℕ, zero, suc, ◌+◌, ◌-◌, ◌*◌, ◌≤◌, ◌<◌, zero-le}
 use native.Mathlib.Numerals.{add-one}
 use native.Mathlib.Omega.{arith}
-use lib.Dec.{leb, ltb, eqb, lit≤}
-use lib.ListN.{length, get_or, take, drop, drop_of_length-le, length-drop}
-use lib.Seq.{drop-cons}
+use lib.Dec.{leb, ltb, eqb, lit≤, lit<}
+use lib.ListN.{length, get_or, take, drop, drop_of_length-le, length-drop, length-take}
+use lib.Seq.{drop-cons, take-take}
 use borrow.Author.Tests.{lt-ltb, le-ltb, lt-leb, le-leb, eq-eqb, ne_eqb, leb-true, ltb-true}
 use Rattle.logic.specs.Lists.{All}
 use Rattle.logic.proofs.Parts.{part_to_end}
@@ -49,6 +49,26 @@ run-prefix_len [] = refl
 run-prefix_len (b ∷ s) =
     let one : suc (prefix_len is_ascii_digit s) ≡ 1 + prefix_len is_ascii_digit s = omega arith in
     rw (digit-is_ascii b, run-prefix_len s, one)
+
+module _ (s : List ℕ) (i : ℕ) (h : i < length s) where
+  pub run-digit : digit (get_or s i 0) ≡ true → run (drop i s) ≡ suc (run (drop (i + 1) s))
+  unfolding run
+  run-digit e = rw (add-one, drop-cons s i 0, e)
+
+  pub run-other : digit (get_or s i 0) ≡ false → run (drop i s) ≡ 0
+  unfolding run
+  run-other e = rw (drop-cons s i 0, e)
+
+pub run_end : (s : List ℕ) (i : ℕ) → length s ≤ i → run (drop i s) ≡ 0
+unfolding run
+run_end s i h = rw (drop_of_length-le s h)
+
+-- the first k bytes begin with as many digits as all do, but no more than k
+run_first : (k : ℕ) (s : List ℕ) → run (take k s) ≡ min k (run s)
+unfolding run
+run_first zero s = omega arith
+run_first (suc k) [] = omega arith
+run_first (suc k) (b ∷ s) = by_test (digit b) (λ e. rw e (omega (arith, run_first k s))) (λ e. rw e (omega arith))
 
 -- the run is all digits
 pub run_take : (s : List ℕ) → run (take (run s) s) ≡ length (take (run s) s)
@@ -118,12 +138,13 @@ abbrev tens : ℕ → ℕ
 tens zero = 1
 tens (suc k) = tens k * 10
 
-tens-le : (k : ℕ) → k < 4 → tens k ≤ 1000
+tens-le : (k : ℕ) → k < 5 → tens k ≤ 10000
 tens-le zero h = lit≤ tt
 tens-le (suc zero) h = lit≤ tt
 tens-le (suc (suc zero)) h = lit≤ tt
 tens-le (suc (suc (suc zero))) h = lit≤ tt
-tens-le (suc (suc (suc (suc k)))) h = absurd (omega arith)
+tens-le (suc (suc (suc (suc zero)))) h = lit≤ tt
+tens-le (suc (suc (suc (suc (suc k))))) h = absurd (omega arith)
 
 -- each of the digits is one
 pub digit-at : (ds : List ℕ) (i : ℕ) → All Digit ds → i < length ds → Digit (get_or ds i 0)
@@ -131,64 +152,106 @@ digit-at [] i all h = absurd (omega arith)
 digit-at (b ∷ ds) zero all h = all.0
 digit-at (b ∷ ds) (suc i) all h = digit-at ds i all.1 (omega arith)
 
--- v is read of the first i digits, and the others are left
-pub record ReadTo (ds : List ℕ) (i v : ℕ) : Type 0 where
+-- v is read of the first i bytes, which are digits, and those behind them are left
+pub record ReadTo (s : List ℕ) (i v : ℕ) : Type 0 where
   pub small : v < tens i
-  pub says : value v (drop i ds) ≡ value 0 ds
+  pub ran : i + run (drop i s) ≡ run s
+  pub says : value v (take (run (drop i s)) (drop i s)) ≡ value 0 (take (run s) s)
 
-module _ (ds : List ℕ) (i v : ℕ) (read : ReadTo ds i v) where
-  -- a digit more: the byte is one, and the number stays below 10,000
-  pub read_next : All Digit ds → length ds ≤ 4 → i < length ds
-      → (48 ≤ get_or ds i 0) × (v * 10 + (get_or ds i 0 - 48) < 10000) × ReadTo ds (i + 1) (v * 10 + (get_or ds i 0 - 48))
-  unfolding value
-  read_next all few h =
-      let d = digit-at ds i all h in
-      let k : tens i ≤ 1000 = tens-le i (omega arith) in
-      let below : v * 10 + (get_or ds i 0 - 48) < tens i * 10 = omega (arith, read.small, d.0, d.1) in (
+pub read-start : (s : List ℕ) → ReadTo s 0 0
+read-start s = record { small = lit< tt; ran = omega arith; says = refl }
+
+-- a digit more is taken into the value
+value-next : (v : ℕ) (s : List ℕ) (i : ℕ) → i < length s → digit (get_or s i 0) ≡ true
+    → value v (take (run (drop i s)) (drop i s)) ≡ value (v * 10 + (get_or s i 0 - 48)) (take (run (drop (i + 1) s)) (drop (i + 1) s))
+unfolding value run
+value-next v s i h d = rw (add-one, drop-cons s i 0, d)
+
+module _ (s : List ℕ) (i v : ℕ) (read : ReadTo s i v) where
+  -- a digit more: the byte is one, and the number stays below 100,000
+  pub read_next : is_ascii_digit (get_or s i 0) ≡ true → length s ≤ 5 → i < length s
+      → (48 ≤ get_or s i 0) × (v * 10 + (get_or s i 0 - 48) < 100000) × ReadTo s (i + 1) (v * 10 + (get_or s i 0 - 48))
+  read_next a few h =
+      let e = digit-is_ascii (get_or s i 0) ∙ a in
+      let d = digit_range (get_or s i 0) e in
+      let k : tens i ≤ 10000 = tens-le i (omega arith) in
+      let below : v * 10 + (get_or s i 0 - 48) < tens i * 10 = omega (arith, read.small, d.0, d.1) in (
         d.0,
         omega (arith, k, below),
         record {
           small = rw add-one below;
-          says = rw add-one (rw (drop-cons ds i 0) at read.says);
+          ran = omega (arith, read.ran, run-digit s i h e);
+          says = sym (value-next v s i h e) ∙ read.says;
         },
       )
 
   -- the digits are all read
-  pub read-end : length ds ≤ i → v ≡ value 0 ds
+  none_left : run (drop i s) ≡ 0 → (v ≡ value 0 (take (run s) s)) × (i ≡ run s)
   unfolding value
-  read-end h = rw (drop_of_length-le ds h) at read.says
+  none_left e = (rw e at read.says, omega (arith, e, read.ran))
+
+  pub read_stop : is_ascii_digit (get_or s i 0) ≡ false → i < length s → (v ≡ value 0 (take (run s) s)) × (i ≡ run s)
+  read_stop a h = none_left (run-other s i h (digit-is_ascii (get_or s i 0) ∙ a))
+
+  pub read-end : length s ≤ i → (v ≡ value 0 (take (run s) s)) × (i ≡ run s)
+  read-end h = none_left (run_end s i h)
 
 -- the digits that a text begins with, from a place on
 abbrev pub digits_at : ℕ → List ℕ → List ℕ
 digits_at at s = take (run (drop at s)) (drop at s)
 
--- r of them are counted
-module _ (at r : ℕ) (s : List ℕ) (h : at ≤ length s) (e : r ≡ prefix_len is_ascii_digit (take (length s - at) (drop at s))) where
-  ran : r ≡ run (drop at s)
-  ran = rw part_to_end at e ∙ sym (run-prefix_len (drop at s))
+-- the first k bytes of a text from a place on, as the calls give them
+abbrev first : ℕ → ℕ → List ℕ → List ℕ
+first at k s = take k (take (length s - at) (drop at s))
 
-  pub run-inside : at + r ≤ length s
+-- v is read of the first five bytes of the text from a place on, of which n are digits
+module _ (at k v n : ℕ) (s : List ℕ) (h : at ≤ length s) (q : k ≡ min (length s - at) 5)
+    (ev : v ≡ value 0 (take (run (first at k s)) (first at k s))) (en : n ≡ run (first at k s)) where
+  ran : n ≡ min 5 (run (drop at s))
+  ran =
+      let e' = rw part_to_end at en in
+      omega (arith, q, e', run_first k (drop at s), run-le (drop at s), length-drop at s)
+
+  pub run-inside : at + n ≤ length s
   run-inside = omega (arith, ran, run-le (drop at s), length-drop at s)
 
-  pub run_part : take (at + r - at) (drop at s) ≡ digits_at at s
-  run_part =
-      let q : at + r - at ≡ run (drop at s) = omega (arith, ran) in
-      rw q
-
-  pub all_digits : All Digit (take (at + r - at) (drop at s))
-  all_digits = rw run_part (run-digits (digits_at at s) (run_take (drop at s)))
-
-  pub number_none : formed (take (at + r - at) (drop at s)) ≡ false → None ≡ number_at at s
+  -- five are too many, and fewer are all
+  pub number_none : formed (take (at + n - at) (drop at s)) ≡ false → None ≡ number_at at s
   unfolding number_at number_of
-  number_none w = let w' = rw run_part at w in rw w'
+  number_none w =
+      by_lt 4 (run (drop at s))
+      (λ l. rw (formed_long (digits_at at s) (omega (arith, l, length-take (run (drop at s)) (drop at s), run-le (drop at s)))))
+      (λ l.
+      let d : at + n - at ≡ run (drop at s) = omega (arith, ran, l) in
+      let w' = rw d at w in
+      rw w')
 
-  pub number_found : (v : ℕ) → formed (take (at + r - at) (drop at s)) ≡ true → v ≡ value 0 (take (at + r - at) (drop at s))
-      → Some (v, at + r) ≡ number_at at s
-  unfolding number_at number_of
-  number_found v w p =
-      let w' = rw run_part at w in
-      let p' = rw run_part at p in
-      rw (w', ← p', ← ran)
+  module _ (w : formed (take (at + n - at) (drop at s)) ≡ true) where
+    all : n ≡ run (drop at s)
+    all =
+        let few = formed-le (take (at + n - at) (drop at s)) w in
+        omega (arith, ran, few, length-take (at + n - at) (drop at s), run-le (drop at s))
+
+    same : formed (digits_at at s) ≡ true
+    same =
+        let d : at + n - at ≡ run (drop at s) = omega (arith, all) in
+        rw d at w
+
+    says : v ≡ value 0 (digits_at at s)
+    says =
+        let e = rw part_to_end at ev in
+        let r : run (take k (drop at s)) ≡ run (drop at s) = omega (arith, rw part_to_end at en, all) in
+        let t : take (run (drop at s)) (take k (drop at s)) ≡ digits_at at s = take-take (run (drop at s)) k (drop at s) (omega (arith, q, ran, all, length-drop at s, run-le (drop at s))) in
+        rw (r, t) at e
+
+    pub number_small : v < 10000
+    number_small = omega (arith, says, value_small (digits_at at s) (run-digits (digits_at at s) (run_take (drop at s))) (formed-le (digits_at at s) same))
+
+    pub number_found : Some (v, at + n) ≡ number_at at s
+    unfolding number_at number_of
+    number_found =
+        let w' = same in
+        rw (w', ← says, ← all)
 
 -- ---- a number behind a word
 

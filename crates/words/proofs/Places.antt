@@ -1,7 +1,7 @@
 -- A text written at a place of a room, each way that it can end. Assumes nothing.
 use mathlib.Core.Path.{◌≡◌, refl, sym, ap, ◌∙◌}
 use mathlib.Core.Bool.{true, false}
-use mathlib.Core.List.{List, append_assoc}
+use mathlib.Core.List.{List, ◌++◌, append_assoc}
 use Prim.Native.Nat.{ℕ, ◌+◌, ◌-◌, ◌≤◌, ◌<◌}
 use native.Mathlib.Omega.{arith}
 use lib.Dec.{leb}
@@ -11,6 +11,7 @@ use Rattle.std.proofs.lemmas.List.Edits.{sets-eq}
 use borrow.Rule.Slice.PartMut.{put_mid}
 use borrow.Author.Tests.{le-leb, lt-leb, leb-true}
 use Rattle.logic.proofs.Tests.{by_lt}
+use Rattle.logic.proofs.Rooms.{sets_front}
 use Rattle.words.specs.Places.{within, behind, put_at}
 
 module _ (at k n : ℕ) where
@@ -49,3 +50,7 @@ module _ (at : ℕ) (w room : List ℕ) where
   pub put-fits : at + length w ≤ length room → (behind at w (length room) ≡ at + length w) × (put_at room at w ≡ sets room at w)
   unfolding behind put_at within
   put-fits h = rw (le-leb (at + length w) (length room) h) (refl, refl)
+
+-- at the front of a room that is long enough: the text, and the rest of the room
+pub put_front : (room w : List ℕ) → length w ≤ length room → put_at room 0 w ≡ w ++ drop (length w) room
+put_front room w h = (put-fits 0 w room (omega arith)).1 ∙ sets_front w room h

@@ -1,7 +1,10 @@
 -- Texts printed into a room, one behind the other. Assumes nothing.
-use Rattle.std.proofs.Common.{◌≡◌, ℕ, ◌+◌, ◌≤◌, List, [], ◌++◌, length, drop, sym, ap, ap₂, ◌∙◌, refl, arith, min, length-append}
+use Rattle.std.proofs.Common.{◌≡◌, ℕ, ◌+◌, ◌-◌, ◌≤◌, List, [], ◌++◌, append_assoc, length, take, drop, sym, ap, ap₂, ◌∙◌, refl, arith, min, length-append, length-drop}
+use mathlib.Core.List.{append-nil}
 use lib.Dec.{leb}
-use lib.Seq.{sets, length-sets}
+use lib.ListN.{drop_of_length-le}
+use lib.Seq.{sets, sets-eq, length-sets, drop-drop, take_all}
+use borrow.Rule.Slice.PartMut.{put_mid}
 use borrow.Author.Tests.{le-leb, lt-leb}
 use Rattle.logic.proofs.Tests.{by_lt}
 use Rattle.logic.proofs.Rooms.{sets_append, sets_front}
@@ -46,3 +49,22 @@ pub prints_fits : (room w : List ℕ) (end : ℕ) (out : List ℕ) (n : ℕ) →
 prints_fits room w end out n h p =
     by_lt n (length w) (λ l. lt-leb end n (omega (arith, p.place)) ∙ sym (lt-leb (length w) n l))
     (λ l. le-leb end n (omega (arith, p.place)) ∙ sym (le-leb (length w) n l))
+
+-- a text printed at the front of the part of a room that begins at a place, or at the room's end where that comes first, as the calls
+-- give it
+pub prints_part : (room : List ℕ) (at p k : ℕ) (w : List ℕ) (size end : ℕ) (part : List ℕ) → length room ≤ 18446744073709551615
+    → p ≡ min at (length room) → k ≡ length room - p → Prints (take k (drop p room)) 0 w size part → end ≡ min (at + size) 18446744073709551615
+    → Prints room at w end (put_mid p k room part)
+prints_part room at p k w size end part l ep ek printed e = record {
+  place = omega (arith, printed.place, e);
+  written = λ h.
+      let a : p ≡ at = omega (arith, ep, h) in
+      let t : take k (drop p room) ≡ drop at room = rw a (take_all k (drop at room) (simp length-drop (omega (arith, ek, a)))) in
+      let none : drop k (drop p room) ≡ [] = rw a (drop_of_length-le (drop at room) {i = k} (simp length-drop (omega (arith, ek, a)))) in
+      let there : length w ≤ length (drop at room) = simp length-drop (omega (arith, h)) in
+      let done = printed.written (rw t (omega (arith, there))) in
+      let front : part ≡ w ++ drop (length w) (drop at room) = rw t at done.1 ∙ sets_front w (drop at room) there in
+      let rest : drop (length w) (drop at room) ≡ drop (at + length w) room = drop-drop (length w) at room in
+      let put : put_mid p k room part ≡ take at room ++ (w ++ drop (length w) (drop at room)) = rw (none, append-nil, front, a) in
+      (omega (arith, done.0, e, l, h), put ∙ rw (rest, ← append_assoc) (sym (sets-eq w room at h)));
+}

@@ -60,6 +60,10 @@ figures-tens (suc k) v h =
     by_lt v 10 (λ l. omega (arith, figures-one v l))
     (λ l. omega (arith, figures-more v l, figures-tens k (v / 10) (omega arith)))
 
+-- a number of 64 bits has at most 20
+pub figures-le : (v : ℕ) → v < 18446744073709551616 → figures v ≤ 20
+figures-le v h = figures-tens 19 v (omega arith)
+
 -- ---- the digits
 
 pub length-numeral : (v : ℕ) → length (numeral v) ≡ figures v
@@ -72,7 +76,7 @@ unfolding numeral
 numeral_is v k e = ap (λ (n : ℕ). digits n v) e
 
 -- below 10,000 it is the number in decimal as the sheet has it
-figures-width : (v : ℕ) → v < 10000 → figures v ≡ width v
+pub figures-width : (v : ℕ) → v < 10000 → figures v ≡ width v
 figures-width v small =
     by_lt v 10 (λ h. figures-one v h ∙ sym (width_1 v h))
     (λ l. by_lt v 100 (λ h. omega (arith, figures-more v l, figures-one (v / 10) (omega arith), width_2 v l h))

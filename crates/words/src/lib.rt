@@ -9,6 +9,7 @@ mod number;
 mod text;
 mod word;
 
+pub use decimal::{put_number, put_numeral, width};
 pub use number::number_after;
 pub use text::{print, print_piece};
 pub use word::{begins, put};

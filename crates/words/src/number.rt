@@ -1,8 +1,7 @@
 // A number in a text, read.
-ghost use Rattle.std.specs.Prelude.{◌≡◌, ◌≤◌, length};
-ghost use Rattle.std.specs.Char.{is_ascii_digit};
-ghost use Rattle.std.specs.List.{prefix_len};
-ghost use Rattle.words.specs.Numbers.{formed, number_at, number_after};
+ghost use Rattle.std.specs.Prelude.{◌≡◌, ◌≤◌, length, take};
+ghost use Rattle.words.specs.Numerals.{value};
+ghost use Rattle.words.specs.Numbers.{run, formed, number_at, number_after};
 
 use crate::word::begins;
 
@@ -18,28 +17,37 @@ fn formed(digits: &[u8]) -> bool
     }
 }
 
-// How many digits the text begins with.
-fn run(s: &[u8]) -> usize
-    ensures { result ≡ prefix_len is_ascii_digit s.now }
+// The digits that the text, of at most five bytes, begins with: the number that they make, and how many they are.
+fn digits(s: &[u8]) -> (u32, usize)
+    requires { length s.now ≤ 5 }
+    ensures number { result.0 ≡ value 0 (take (run s.now) s.now) }
+    ensures count { result.1 ≡ run s.now }
 {
-    s.iter().take_while(|b| b.is_ascii_digit()).count()
+    let mut v = 0;
+    let mut n = 0;
+    for b in s {
+        if !b.is_ascii_digit() {
+            return (v, n);
+        }
+        v = v * 10 + u32::from(*b - b'0');
+        n += 1;
+    }
+    (v, n)
 }
 
-// The number that stands at a place of the text, and the place behind it.
+// The number that stands at a place of the text, and the place behind it. A fifth digit is too many already, so no byte behind it is
+// looked at.
 fn number_at(s: &[u8], at: usize) -> Option<(u16, usize)>
     requires { at ≤ length s.now }
     ensures { result ≡ number_at at s.now }
 {
-    let end = at + run(&s[at..]);
-    let digits = &s[at..end];
-    if !formed(digits) {
+    let rest = &s[at..];
+    let (v, n) = digits(&rest[..rest.len().min(5)]);
+    let end = at + n;
+    if !formed(&s[at..end]) {
         return None;
     }
-    let mut v = 0;
-    for b in digits {
-        v = v * 10 + u16::from(*b - b'0');
-    }
-    Some((v, end))
+    Some((v as u16, end))
 }
 
 // The number behind a word that stands at a place of the text, and the place behind it. Inlined, so that a word of constant length

@@ -11,10 +11,14 @@ pub fn begins(s: &[u8], w: &[u8]) -> bool
 }
 
 // From a place on, k bytes are within n.
+#[tactic(auto, unfolding(crate::specs::Places::within))]
 pub(crate) fn fits(at: usize, k: usize, n: usize) -> bool
     ensures { result ≡ within at k n }
 {
-    k <= n && at <= n - k
+    match at.checked_add(k) {
+        Some(end) => end <= n,
+        None => false,
+    }
 }
 
 // Writes a word at a place of the room and answers the place behind it; the rest stays. Where it does not fit all of the room
@@ -26,7 +30,10 @@ pub fn put(w: &[u8], room: &mut [u8], at: usize) -> usize
     if !fits(at, w.len(), room.len()) {
         return at;
     }
-    let end = at + w.len();
-    room[at..end].copy_from_slice(w);
+    let mut end = at;
+    for byte in w {
+        room[end] = *byte;
+        end += 1;
+    }
     end
 }

@@ -1,6 +1,6 @@
 -- `finding::Index::fill` meets its contract.
 -- Assumes nothing.
-use Rattle.std.proofs.Common.{refl, ◌-◌, replicate, arith, length-set}
+use Rattle.std.proofs.Common.{refl, ◌-◌, arith, rules, length-set}
 use Rattle.lists.specs.Lists.{flows_of}
 use Rattle.lists.proofs.Records.{length-flows, flow_is}
 use Rattle.finding.proofs.Records.{noted-none, noted-next}
@@ -10,7 +10,7 @@ pub loop-i-init : goal.loop-i-init
 loop-i-init c =
     let l = c.args.list.now in
     let some = c.count.ensures.0 in
-    (refl, refl, λ h. noted-none (flows_of l) c.min-i.result (replicate 128 128) (omega (arith, length-flows l)) (omega (arith, length-flows l)))
+    (refl, search rules, λ h. noted-none (flows_of l) c.min-i.result c.args.self.now.nexts (omega (arith, length-flows l)) (omega (arith, length-flows l)))
 
 pub loop-i-preserved : goal.loop-i-preserved
 loop-i-preserved c =

@@ -1,30 +1,33 @@
 -- `tables::form::record_tests` meets its contract.
 -- Assumes nothing.
-use Rattle.std.proofs.Common.{arith, sym, ◌∙◌}
-use Rattle.tables.proofs.Records.{start_small}
-use Rattle.tables.proofs.Walk.{records-start, records_spare, records-next, records_stop, records_end}
+use Rattle.std.proofs.Common.{◌≡◌, ◌<◌, arith, sym, ◌∙◌}
+use Rattle.tables.specs.Tables.{values_at}
+use Rattle.tables.proofs.Records.{start_small, length_cut, record_is}
+use Rattle.tables.proofs.Walk.{records-start, records-next, records_end}
 use Rattle.tables.proofs.form.record_tests.Goals as goal
+use Rattle.tables.proofs.form.record_tests.Goals.{After-values_of}
 
-pub loop-i-init : goal.loop-i-init
-loop-i-init c = records-start c.args.table.now c.args.n
+-- the walk is at a record of the table
+inside : (c : After-values_of) → c.loop-bytes.bytes-index < c.args.n
+inside c = omega (arith, length_cut c.args.table.now c.args.n c.requires _ c.as_chunks.ensures.front)
 
-pub returns-then-spare-ne0 : goal.returns-then-spare-ne0
-returns-then-spare-ne0 c =
-    let v = c.loop-i in
-    sym (records_spare c.args.table.now v.i c.args.n (omega arith) v.least _ c.values_at.ensures c.if-spare-ne0.true) ∙ v.invariant
+-- and reads its values
+read : (c : After-values_of) → c.values_of.result ≡ values_at c.args.table.now c.loop-bytes.bytes-index
+read c = record_is c.args.table.now c.args.n c.requires _ c.as_chunks.ensures.front c.loop-bytes.bytes-index _ (inside c) c.values_of.ensures
 
-pub returns-then-start-least : goal.returns-then-start-least
-returns-then-start-least c =
-    let v = c.loop-i in
-    c.not_rising.ensures ∙ sym (records_stop c.args.table.now v.i c.args.n (omega arith) v.least _ c.values_at.ensures c.if-spare-ne0.false c.if-start-least.true) ∙ v.invariant
+pub loop-bytes-init : goal.loop-bytes-init
+loop-bytes-init c = records-start c.args.table.now c.args.n
 
-pub overflow_add-least : goal.overflow_add-least
-overflow_add-least c = record { fits = omega (arith, start_small _ _ _ c.values_at.ensures) }
+pub overflow_add-next : goal.overflow_add-next
+overflow_add-next c = record { fits = omega (arith, start_small _ _ _ (read (goal.at.overflow_add-next c).After-values_of)) }
 
-pub loop-i-preserved : goal.loop-i-preserved
-loop-i-preserved c =
-    let v = c.loop-i in
-    sym (records-next c.args.table.now v.i c.args.n (omega arith) v.least _ c.values_at.ensures c.if-spare-ne0.false c.if-start-least.false) ∙ v.invariant
+pub loop-bytes-preserved : goal.loop-bytes-preserved
+loop-bytes-preserved c =
+    let v = c.loop-bytes in
+    let at = (goal.at.loop-bytes-preserved c).After-values_of in
+    sym (records-next c.args.table.now v.bytes-index c.args.n (inside at) v.next _ (read at) (omega arith) (omega arith)) ∙ v.invariant
 
 pub returns : goal.returns
-returns c = sym (records_end c.args.table.now c.loop-i.i c.args.n (omega arith) c.loop-i.least) ∙ c.loop-i.invariant
+returns c =
+    let all = length_cut c.args.table.now c.args.n c.requires _ c.as_chunks.ensures.front in
+    sym (records_end c.args.table.now c.loop-bytes.bytes-index c.args.n (omega (arith, all)) c.loop-bytes.next) ∙ c.loop-bytes.invariant

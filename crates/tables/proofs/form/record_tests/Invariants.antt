@@ -5,5 +5,5 @@ use Rattle.tables.specs.Parts.{record_tests}
 use Rattle.tables.proofs.Walk.{records_from}
 use Rattle.tables.proofs.form.record_tests.Given as goal
 
-abbrev pub invariant-loop-i : goal.invariant-loop-i
-invariant-loop-i l = records_from l.least l.table l.i l.n ≡ record_tests l.table l.n
+abbrev pub invariant-loop-bytes : goal.invariant-loop-bytes
+invariant-loop-bytes l = records_from l.next l.table l.bytes-index l.n ≡ record_tests l.table l.n

@@ -13,13 +13,18 @@ whole : (c : Else-not-fits) → c.args.at + c.args.k ≤ length c.args.room.now
 whole c = within-le c.args.at _ _ (sym c.fits.ensures ∙ c.if-not-fits.false)
 
 pub returns-then-not-fits : goal.returns-then-not-fits
-returns-then-not-fits c = (put_short c.args.at _ c.args.room.now _ (sym (length_digits c.args.k c.args.v)) (sym c.fits.ensures ∙ c.if-not-fits.true)).1
+returns-then-not-fits c =
+    let short = put_short c.args.at _ c.args.room.now _ (sym (length_digits c.args.k c.args.v)) (sym c.fits.ensures ∙ c.if-not-fits.true) in
+    record { value = short.0; room_after = short.1 }
 
 pub overflow_add-room-in-loop-j : goal.overflow_add-room-in-loop-j
 overflow_add-room-in-loop-j c = let h = whole (goal.at.overflow_add-room-in-loop-j c).Else-not-fits in omega arith
 
 pub bounds-room-at : goal.bounds-room-at
 bounds-room-at c = let h = whole (goal.at.bounds-room-at c).Else-not-fits in omega (arith, c.loop-j.invariant.0)
+
+pub overflow_add-result : goal.overflow_add-result
+overflow_add-result c = let h = whole (goal.at.overflow_add-result c).Else-not-fits in omega arith
 
 pub loop-j-preserved : goal.loop-j-preserved
 loop-j-preserved c =
@@ -33,4 +38,5 @@ unfolding digits
 returns c =
     let z : c.loop-j.j ≡ 0 = omega arith in
     let written = rw z at c.loop-j.invariant.1 in
-    (put_done c.args.at _ c.args.room.now _ (sym (length_digits c.args.k c.args.v)) _ (sym c.fits.ensures ∙ c.if-not-fits.false) written).1
+    let done = put_done c.args.at _ c.args.room.now _ (sym (length_digits c.args.k c.args.v)) _ (sym c.fits.ensures ∙ c.if-not-fits.false) written in
+    record { value = done.0; room_after = done.1 }
