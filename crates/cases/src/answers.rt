@@ -10,11 +10,11 @@ use std::io::Write;
 
 // The operation's name, and the refusal and its place, or two zeros.
 fn outcome<W: Write>(to: &mut W, name: &str, answer: Result<(), Refusal>) -> io::Result<()> {
-    let (number, place) = match answer {
-        Ok(()) => (0, 0),
-        Err(r) => (r.number(), r.place()),
-    };
-    write!(to, "{name} {number} {place}")
+    to.write_all(name.as_bytes())?;
+    match answer {
+        Ok(()) => to.write_all(b" 0 0"),
+        Err(r) => write!(to, " {} {}", r.number(), r.place()),
+    }
 }
 
 // The bytes written, and the sum of the whole room.
@@ -82,14 +82,14 @@ pub fn add<W: Write>(
         list, table, number, size, interval, jitter, list_room, table_room,
     );
     outcome(to, "add", answer.map(|_| ()))?;
+    let offset = answer.unwrap_or(0);
+    write!(to, " {offset}")?;
     match answer {
-        Ok(offset) => {
-            write!(to, " {offset}")?;
+        Ok(_) => {
             filled(to, list_bytes(list_room), list_room)?;
             filled(to, table_bytes(table_room), table_room)?;
         }
         Err(_) => {
-            write!(to, " 0")?;
             filled(to, 0, list_room)?;
             filled(to, 0, table_room)?;
         }

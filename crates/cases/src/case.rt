@@ -1,9 +1,15 @@
-// A case: read from the stream whole, and answered.
+// A case: read from the stream whole, and answered. That it is broken is told only when all its numbers have been read: of a plain
+// number that is missing, where the stream goes on behind it, the case has one that is larger than any.
 use crate::answers;
-use crate::stream::{Fault, length, number, string};
+use crate::stream::{Fault, fill, length, number, string};
 use refusals::Refusal;
 use std::io;
-use std::io::{ErrorKind, Read, Write};
+use std::io::{Read, Write};
+
+// A plain number of a case; larger than any where it is missing.
+fn plain(number: Option<u32>) -> u64 {
+    number.map_or(u64::MAX, u64::from)
+}
 
 // Reads a byte string and the length of a room, and answers an operation that writes.
 fn written<R: Read, W: Write, F: FnOnce(&[u8], &mut [u8]) -> Result<usize, Refusal>>(
@@ -16,8 +22,10 @@ fn written<R: Read, W: Write, F: FnOnce(&[u8], &mut [u8]) -> Result<usize, Refus
 ) -> Result<(), Fault>
     requires { F.IsAlwaysCallable operation }
 {
-    let n = string(from, input)?;
-    let k = length(from, room)?;
+    let input_length = string(from, input)?;
+    let room_length = length(from, room)?;
+    let n = input_length.ok_or(Fault::Broken)?;
+    let k = room_length.ok_or(Fault::Broken)?;
     let answer = operation(&input[..n], &mut room[..k]);
     answers::made(to, name, answer, &room[..k])?;
     Ok(())
@@ -30,18 +38,22 @@ fn checked<R: Read, W: Write>(
     list: &mut [u8],
     table: &mut [u8],
 ) -> Result<(), Fault> {
-    let n = string(from, list)?;
-    let k = string(from, table)?;
+    let list_length = string(from, list)?;
+    let table_length = string(from, table)?;
+    let n = list_length.ok_or(Fault::Broken)?;
+    let k = table_length.ok_or(Fault::Broken)?;
     answers::check(to, &list[..n], &table[..k])?;
     Ok(())
 }
 
 // Reads a table and the ends of a window, and answers it.
 fn windowed<R: Read, W: Write>(from: &mut R, to: &mut W, table: &mut [u8]) -> Result<(), Fault> {
-    let n = string(from, table)?;
-    let a = number(from)?;
-    let b = number(from)?;
-    answers::window(to, &table[..n], u64::from(a), u64::from(b))?;
+    let table_length = string(from, table)?;
+    let low = number(from)?;
+    let high = number(from)?;
+    let n = table_length.ok_or(Fault::Broken)?;
+    let b = high.ok_or(Fault::Broken)?;
+    answers::window(to, &table[..n], plain(low), u64::from(b))?;
     Ok(())
 }
 
@@ -54,22 +66,26 @@ fn added<R: Read, W: Write>(
 ) -> Result<(), Fault> {
     let mut table = [0u8; 32768];
     let mut table_room = [0xA5u8; 32768];
-    let n = string(from, list)?;
-    let k = string(from, &mut table)?;
+    let list_length = string(from, list)?;
+    let table_length = string(from, &mut table)?;
     let flow_number = number(from)?;
     let size = number(from)?;
     let interval = number(from)?;
     let jitter = number(from)?;
-    let a = length(from, list_room)?;
-    let b = length(from, &table_room)?;
+    let list_room_length = length(from, list_room)?;
+    let table_room_length = length(from, &table_room)?;
+    let n = list_length.ok_or(Fault::Broken)?;
+    let k = table_length.ok_or(Fault::Broken)?;
+    let a = list_room_length.ok_or(Fault::Broken)?;
+    let b = table_room_length.ok_or(Fault::Broken)?;
     answers::add(
         to,
         &list[..n],
         &table[..k],
-        u64::from(flow_number),
-        u64::from(size),
-        u64::from(interval),
-        u64::from(jitter),
+        plain(flow_number),
+        plain(size),
+        plain(interval),
+        plain(jitter),
         &mut list_room[..a],
         &mut table_room[..b],
     )?;
@@ -83,10 +99,14 @@ fn converted<R: Read, W: Write>(
     settings: &mut [u8],
     room: &mut [u8],
 ) -> Result<(), Fault> {
-    let n = string(from, settings)?;
-    let microseconds = u64::from(number(from)?);
-    let bytes = u64::from(number(from)?);
-    let k = length(from, room)?;
+    let settings_length = string(from, settings)?;
+    let slot_microseconds = number(from)?;
+    let slot_bytes = number(from)?;
+    let room_length = length(from, room)?;
+    let n = settings_length.ok_or(Fault::Broken)?;
+    let microseconds = plain(slot_microseconds);
+    let bytes = plain(slot_bytes);
+    let k = room_length.ok_or(Fault::Broken)?;
     let room = &mut room[..k];
     let answer = converting::list_from_settings(&settings[..n], microseconds, bytes, room);
     answers::made(to, "settings", answer, room)?;
@@ -100,9 +120,12 @@ fn rounded<R: Read, W: Write>(
     list: &mut [u8],
     room: &mut [u8],
 ) -> Result<(), Fault> {
-    let n = string(from, list)?;
-    let base = u64::from(number(from)?);
-    let k = length(from, room)?;
+    let list_length = string(from, list)?;
+    let base = number(from)?;
+    let room_length = length(from, room)?;
+    let n = list_length.ok_or(Fault::Broken)?;
+    let base = plain(base);
+    let k = room_length.ok_or(Fault::Broken)?;
     let room = &mut room[..k];
     let answer = rounding::round_list(&list[..n], base, room);
     answers::made(to, "round", answer, room)?;
@@ -150,10 +173,8 @@ fn case<R: Read, W: Write>(from: &mut R, to: &mut W, code: u8) -> Result<(), Fau
 // Answers the next case, and whether to go on: the stream ends between two cases, or with one that is broken.
 pub fn answer<R: Read, W: Write>(from: &mut R, to: &mut W) -> io::Result<bool> {
     let mut code = [0u8; 1];
-    match from.read_exact(&mut code) {
-        Ok(()) => {}
-        Err(e) if e.kind() == ErrorKind::UnexpectedEof => return Ok(false),
-        Err(e) => return Err(e),
+    if !fill(from, &mut code)? {
+        return Ok(false);
     }
     match case(from, to, code[0]) {
         Ok(()) => Ok(true),
